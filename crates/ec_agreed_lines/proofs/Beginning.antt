@@ -18,7 +18,7 @@ use Rattle.ec_quiet.specs.Quiet.{IsIdle}
 use Rattle.ec_quiet.specs.Scenes.{Mail, Scene, done_by}
 use Rattle.ec_quiet.specs.Works.{HasTask, Work}
 use Rattle.ec_quiet.specs.Goes.{Goes, MayGo}
-use Rattle.ec_quiet.specs.Takings.{IsReady, with_clerk_at}
+use Rattle.ec_quiet.specs.Takings.{ClerkIsReady, with_clerk_at}
 use Rattle.ec_quiet.proofs.Beside.{own-at}
 use Rattle.ec_quiet.proofs.Going.{goes}
 use Rattle.ec_quiet.proofs.Taking.{each-map}
@@ -100,7 +100,7 @@ module _ (j : Work) (sc : Scene) (sl : Slot) (k : Clerk) (cl : Call) (idle : IsI
     fresh = tt;
   }
 
-  ready : IsReady j (with_clerk_at j (doing now) [] sc) sl now
+  ready : ClerkIsReady j (with_clerk_at j (doing now) [] sc) sl now
   ready = record {
     there = own-at j.clerk now sc.clerks;
     inside = record {

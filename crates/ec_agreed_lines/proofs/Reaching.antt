@@ -12,7 +12,7 @@ use Rattle.ec_coherence.proofs.Tables.{at-put, at-without}
 use Rattle.ec_quiet.specs.SettlingScenes.{Reaches}
 use Rattle.ec_machine_laws.specs.Answers.{Asking}
 use Rattle.ec_machine_laws.specs.PlainLines.{asked_in}
-use Rattle.ec_agreed_lines.specs.Answered.{IsAnswered, IsCalled, NoneCalls}
+use Rattle.ec_agreed_lines.specs.Answered.{LineIsAnswered, IsCalled, NoneCalls}
 use Rattle.ec_agreed_lines.proofs.Showing as showing
 use Rattle.ec_agreed_lines.proofs.Showing.{CallTable}
 
@@ -90,7 +90,7 @@ module _ (l c : ℕ) (cl : Call) where
         (λ z. s.2 z ++ ((sym f.1 z).0, sym d-is z, (sym f.1 z).1) ∷ []),
       )
 
-  pub calls-once : (w : World) (r : Moving) → NoneCalls w → (call c l cl w).fault ≡ None → Reaches (call c l cl w) r → IsCalled l c cl r ⊎ IsAnswered l c cl r
+  pub calls-once : (w : World) (r : Moving) → NoneCalls w → (call c l cl w).fault ≡ None → Reaches (call c l cl w) r → IsCalled l c cl r ⊎ LineIsAnswered l c cl r
   calls-once w r none fine reached =
       elim (showing.reaches Known answered (call c l cl w) r (showing.calls Known answered c l cl w (λ n. inl (n, begins w n none, refl)) fine) reached) [
         | inl s ↦ inl (record { number = s.0; calls = s.1; none = s.2 })

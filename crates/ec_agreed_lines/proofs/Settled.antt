@@ -32,7 +32,7 @@ use Rattle.ec_quiet.proofs.Delivering as delivering
 use Rattle.ec_quiet.proofs.Delivering.{due-is, none-due, scene-then}
 use Rattle.ec_deliveries.specs.PhasesBehind.{IsBehind, MaySee}
 use Rattle.ec_deliveries.proofs.StayingBehind.{stays-behind}
-use Rattle.ec_agreed_lines.specs.Closures.{IsBaseOf, IsKnown, StaysWithin}
+use Rattle.ec_agreed_lines.specs.Closures.{IsBaseOf, WorldIsKnown, StaysWithin}
 use Rattle.ec_deliveries.specs.WithinClosures.{IsWithin, kept_operations}
 use Rattle.ec_agreed_lines.proofs.Lines.{Along, IsOther, along-within, both-along, delivery-step, other-within, step-along}
 use Rattle.ec_agreed_lines.proofs.Within.{lines-within}
@@ -169,7 +169,7 @@ module _ (P : List Shown → Shown → Type 0) (other : (past : List Shown) (l :
     }
     stays r (on o n way next ok) bound = let less : o.world.sent ≤ most = no-fewer o n ok bound in stays-on o way less (stays o way less) n next ok
 
-pub lines-settle : (base : Base) (v : Images) (j : Work) (most : ℕ) (m : Moving) (sc : Scene) (p : Phase) → IsKnown base v j most m → IsScene m.world sc → InPhase j sc p → IsBehind v j sc → (r : Moving) → Reaches m r → r.world.sent ≤ most → StaysWithin base v j m r
+pub lines-settle : (base : Base) (v : Images) (j : Work) (most : ℕ) (m : Moving) (sc : Scene) (p : Phase) → WorldIsKnown base v j most m → IsScene m.world sc → InPhase j sc p → IsBehind v j sc → (r : Moving) → Reaches m r → r.world.sent ≤ most → StaysWithin base v j m r
 lines-settle base v j most m sc p known stands ip fine r way bound =
     let q = stays (IsWithin base v j) (other-within base v j) v j most m (λ r sc p x rest reached le i ip head next. known.takes r sc p x rest reached le i ip head) shows sc p stands ip fine r way bound in
     record {

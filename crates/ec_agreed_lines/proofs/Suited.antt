@@ -15,7 +15,7 @@ use Rattle.ec_protocol.specs.declared.world.World.{World}
 use Rattle.ec_coherence.specs.Invariant.{Invariant}
 use Rattle.ec_coherence.specs.Steps.{Stands}
 use Rattle.ec_coherence.specs.System.{System, clerk_in}
-use Rattle.ec_quiet.specs.Facts.{clerk_of}
+use Rattle.ec_quiet.specs.Facts.{session_clerk}
 use Rattle.ec_quiet.specs.Phases.{Phase, Greets, Opens, Claims, Wants, Recalls, Flushes, Keeps, Grants, Asks, Gives, Refuses, Saves, Saved, Ends, InPhase, IsAsking, IsRecalled, IsSaving, main, messages, is_back}
 use Rattle.ec_quiet.specs.Scenes.{IsScene, Mail, Scene, delivered, is_for_server}
 use Rattle.ec_quiet.specs.Works.{Work}
@@ -30,12 +30,12 @@ use Rattle.ec_quiet.specs.Goes.{GoesOn}
 
 module _ (g : System) (sc : Scene) (inv : Invariant g) (seen : IsSeen g sc) (counters : HasCounters sc.server) (j : Work) where
   -- A holder's batch.
-  holder-taken : (x : ℕ) (h : Hold) (r : Holder) (b : ℕ) (ops : Issued) (more : Bool) → InPhase j sc (Flushes x h r b ops more) → IsTaken (clerk_of sc.server r.0) r.0 b ops sc.server
+  holder-taken : (x : ℕ) (h : Hold) (r : Holder) (b : ℕ) (ops : Issued) (more : Bool) → InPhase j sc (Flushes x h r b ops more) → IsTaken (session_clerk sc.server r.0) r.0 b ops sc.server
   holder-taken x h r b ops more ip =
       let q : IsRecalled 1 sc x h r b more = ip.facts.1 in
-      let start = seen.clerks (clerk_of sc.server r.0) q.clerk q.there in
-      let there : clerk_in g r.0 ≡ Some q.clerk = clerk-there g inv.sessions (clerk_of sc.server r.0) start.0 r.0 q.clerk start.1 (q.inside.session ∙ ap Some q.session) in
-      batch-taken g sc.server inv seen.server seen.durable (clerk_of sc.server r.0) r.0 b ops q.slot q.clerk q.sending.numbers q.inside.there q.session q.inside.is_open
+      let start = seen.clerks (session_clerk sc.server r.0) q.clerk q.there in
+      let there : clerk_in g r.0 ≡ Some q.clerk = clerk-there g inv.sessions (session_clerk sc.server r.0) start.0 r.0 q.clerk start.1 (q.inside.session ∙ ap Some q.session) in
+      batch-taken g sc.server inv seen.server seen.durable (session_clerk sc.server r.0) r.0 b ops q.slot q.clerk q.sending.numbers q.inside.there q.session q.inside.is_open
       (sym (ap (λ s. has_claimed s sc.server) q.session) ∙ q.inside.claimed) there (ap (at b) q.sending.alone ∙ at-only b q.sending.numbers) (batch-new q.slot q.clerk.log b q.window q.sending) ip.facts.2
 
   -- One of the line's clerk.

@@ -19,12 +19,12 @@ pub record IsCalled (l c : ℕ) (cl : Call) (m : Moving) : Type 0 where
   pub none : asked_in m.shown ≡ []
 
 -- it was answered, and no other one
-abbrev pub IsAnswered : ℕ → ℕ → Call → Moving → Type 0
-IsAnswered l c cl m = NoneCalls m.world × (asked_in m.shown ≡ (l, c, cl) ∷ [])
+abbrev pub LineIsAnswered : ℕ → ℕ → Call → Moving → Type 0
+LineIsAnswered l c cl m = NoneCalls m.world × (asked_in m.shown ≡ (l, c, cl) ∷ [])
 
 -- Where no call was under way, the call of a line is, or was answered, in each world that the line reaches; so where none is under way again it was.
 abbrev pub CallsAreAnsweredOnce : Type 0
-CallsAreAnsweredOnce = (w : World) (l c : ℕ) (cl : Call) (r : Moving) → NoneCalls w → (call c l cl w).fault ≡ None → Reaches (call c l cl w) r → IsCalled l c cl r ⊎ IsAnswered l c cl r
+CallsAreAnsweredOnce = (w : World) (l c : ℕ) (cl : Call) (r : Moving) → NoneCalls w → (call c l cl w).fault ≡ None → Reaches (call c l cl w) r → IsCalled l c cl r ⊎ LineIsAnswered l c cl r
 
 -- In a line that pushes, or says nothing, no call is.
 abbrev pub LinesAnswerNothingElse : Type 0

@@ -40,7 +40,7 @@ pub record IsBaseOf (base : Base) (g : System) (ss : List Shown) : Type 0 where
 
 -- What is known of each world that deliveries come to while the line settles, and no more than so many messages were sent: the invariant holds, and who takes the next
 -- message has what that needs.
-pub record IsKnown (base : Base) (v : Images) (j : Work) (most : ℕ) (m : Moving) : Type 0 where
+pub record WorldIsKnown (base : Base) (v : Images) (j : Work) (most : ℕ) (m : Moving) : Type 0 where
   pub stands : (r : Moving) → Reaches m r → r.world.sent ≤ most → (g : System) × Invariant g × Stands r.world g × IsBaseOf base g r.world.shown
   pub takes : (r : Moving) (sc : Scene) (p : Phase) (x : ℕ × Msg) (rest : Mail) → Reaches m r → r.world.sent ≤ most → IsScene r.world sc → InPhase j sc p → sc.mail ≡ x ∷ rest → CanTake j sc p x × MaySee v j sc p
 
@@ -58,7 +58,7 @@ pub record StaysWithin (base : Base) (v : Images) (j : Work) (m r : Moving) : Ty
 
 -- So it is wherever deliveries come to from a phase, and when the line has settled.
 abbrev pub LinesSettleWithin : Type 0
-LinesSettleWithin = (base : Base) (v : Images) (j : Work) (most : ℕ) (m : Moving) (sc : Scene) (p : Phase) → IsKnown base v j most m → IsScene m.world sc → InPhase j sc p → IsBehind v j sc
+LinesSettleWithin = (base : Base) (v : Images) (j : Work) (most : ℕ) (m : Moving) (sc : Scene) (p : Phase) → WorldIsKnown base v j most m → IsScene m.world sc → InPhase j sc p → IsBehind v j sc
     → (r : Moving) → Reaches m r → r.world.sent ≤ most → StaysWithin base v j m r
 
 -- What the lines of a world leave is what is kept in its system: the volume; and so the work of a line on what is kept is its work behind the lines.

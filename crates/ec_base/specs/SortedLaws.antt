@@ -12,7 +12,7 @@ use Rattle.std.proofs.lemmas.List.Sorted.{searchable_from_sorted}
 use Rattle.std.proofs.lemmas.Cmp.{alike_right, tied_back, tied_itself}
 use Rattle.std.proofs.lemmas.Option.{get_or_from_slice_get, slice_get_within}
 use Rattle.ec_base.specs.Sorted.{without}
-use Rattle.ec_base.specs.SortedPlaces.{Stands, Goes}
+use Rattle.ec_base.specs.SortedPlaces.{StandsAt, GoesAt}
 
 pub first : (a b : Bool) → T (a && b) → T a
 first true b p = tt
@@ -63,7 +63,7 @@ module _ {K X : Type 0} (R : K → K → Ordering) where
   kept_below k [] h = refl
   kept_below k (e ∷ es) h = let l : R k e.0 ≡ Less = less _ (first _ _ h) in rw l (ap (λ xs. e ∷ xs) (kept_below k es (second _ _ h)))
 
-  stands_later : (k : K) (e : K × X) (es : List (K × X)) (at : ℕ) → R k e.0 ≡ Greater → Stands R k es at → Stands R k (e ∷ es) (suc at)
+  stands_later : (k : K) (e : K × X) (es : List (K × X)) (at : ℕ) → R k e.0 ≡ Greater → StandsAt R k es at → StandsAt R k (e ∷ es) (suc at)
   stands_later k e es at g s = record {
     within = omega (arith, s.within);
     found = λ d. rw g (s.found d);
@@ -71,7 +71,7 @@ module _ {K X : Type 0} (R : K → K → Ordering) where
     removed = rw g (ap (λ xs. e ∷ xs) s.removed);
   }
 
-  goes_later : (k : K) (e : K × X) (es : List (K × X)) (at : ℕ) → R k e.0 ≡ Greater → Goes R k es at → Goes R k (e ∷ es) (suc at)
+  goes_later : (k : K) (e : K × X) (es : List (K × X)) (at : ℕ) → R k e.0 ≡ Greater → GoesAt R k es at → GoesAt R k (e ∷ es) (suc at)
   goes_later k e es at g s = record {
     within = omega (arith, s.within);
     absent = rw g s.absent;
@@ -112,7 +112,7 @@ module _ {K X : Type 0} (R : K → K → Ordering) where
     pub below_first : (k : K) (e : K × X) (es : List (K × X)) → R k e.0 ≡ Less → T (is_sorted R (e ∷ es)) → T (below_all R k (e ∷ es))
     below_first k e es p h = both _ _ (is_less _ p) (below_through k e.0 es p (first _ _ h))
 
-    stands : (k : K) (es : List (K × X)) (at : ℕ) → T (is_sorted R es) → at < length es → ((d : K × X) → R (get_or es at d).0 k ≡ Equal) → Stands R k es at
+    stands : (k : K) (es : List (K × X)) (at : ℕ) → T (is_sorted R es) → at < length es → ((d : K × X) → R (get_or es at d).0 k ≡ Equal) → StandsAt R k es at
     stands k [] at h lt ties = absurd (omega arith)
     stands k (e ∷ es) zero h lt ties =
         let tie : R k e.0 ≡ Equal = tied_back o _ _ (ties e) in
@@ -126,7 +126,7 @@ module _ {K X : Type 0} (R : K → K → Ordering) where
         let lower : R e.0 k ≡ Less = sym (alike_right o _ _ e.0 (ties e)) ∙ below_each e.0 es at e (first _ _ h) (omega arith) in
         stands_later k e es at (turned R o _ _ Less lower) (stands k es at (second _ _ h) (omega arith) ties)
 
-    goes : (k : K) (es : List (K × X)) (at : ℕ) → T (is_sorted R es) → at ≤ length es → ((i : ℕ) (d : K × X) → i < at → R (get_or es i d).0 k ≡ Less) → ((i : ℕ) (d : K × X) → at ≤ i → i < length es → R (get_or es i d).0 k ≡ Greater) → Goes R k es at
+    goes : (k : K) (es : List (K × X)) (at : ℕ) → T (is_sorted R es) → at ≤ length es → ((i : ℕ) (d : K × X) → i < at → R (get_or es i d).0 k ≡ Less) → ((i : ℕ) (d : K × X) → at ≤ i → i < length es → R (get_or es i d).0 k ≡ Greater) → GoesAt R k es at
     goes k [] zero h le before after = record { within = le; absent = refl; added = λ v. refl; kept = refl }
     goes k [] (suc at) h le before after = absurd (omega arith)
     goes k (e ∷ es) zero h le before after =
@@ -147,7 +147,7 @@ module _ {K X : Type 0} (R : K → K → Ordering) where
     comparisons_rise : (k : K) (es : List (K × X)) → T (is_sorted R es) → IsNonDecreasingBy (λ e. ordering_index (R e.0 k)) es
     comparisons_rise k es h = searchable_from_sorted o (λ e. e.0) es k (λ i d from lt. ap is_lt (turned R o _ _ Less (rising es i (i + 1) d h (omega arith) (omega arith))))
 
-    pub searched : (k : K) (es : List (K × X)) (r : Result ℕ ℕ) → T (is_sorted R es) → IsSearchInRange r (length es) → IsBinarySearchResult (λ e. R e.0 k) es r → MatchResult r (Stands R k es) (Goes R k es)
+    pub searched : (k : K) (es : List (K × X)) (r : Result ℕ ℕ) → T (is_sorted R es) → IsSearchInRange r (length es) → IsBinarySearchResult (λ e. R e.0 k) es r → MatchResult r (StandsAt R k es) (GoesAt R k es)
     searched k es (Ok at) h within ties = stands k es at h within ties
     searched k es (Err at) h within parted =
         let parts = parted (comparisons_rise k es h) in

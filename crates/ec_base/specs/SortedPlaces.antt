@@ -6,14 +6,14 @@ use Rattle.std.specs.FinMap.Entries.{find, put}
 use Rattle.ec_base.specs.Sorted.{without}
 
 -- the key is that of the pair at this place
-pub record Stands {K X : Type 0} (R : K → K → Ordering) (k : K) (es : List (K × X)) (at : ℕ) : Type 0 where
+pub record StandsAt {K X : Type 0} (R : K → K → Ordering) (k : K) (es : List (K × X)) (at : ℕ) : Type 0 where
   pub within : at < length es
   pub found : (pair : K × X) → find R k es ≡ Some (slice_index_or es at pair).1
   pub changed : (pair : K × X) (v : X) → put R k v es ≡ slice_set es at ((slice_index_or es at pair).0, v)
   pub removed : without R k es ≡ remove es at
 
 -- the key is none of the list's, and would go to this place
-pub record Goes {K X : Type 0} (R : K → K → Ordering) (k : K) (es : List (K × X)) (at : ℕ) : Type 0 where
+pub record GoesAt {K X : Type 0} (R : K → K → Ordering) (k : K) (es : List (K × X)) (at : ℕ) : Type 0 where
   pub within : at ≤ length es
   pub absent : find R k es ≡ None
   pub added : (v : X) → put R k v es ≡ insert es at (k, v)

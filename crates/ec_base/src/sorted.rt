@@ -4,7 +4,7 @@ ghost use Rattle.std.specs.Cmp.{on_per, and_per, on_equiv, and_equiv};
 ghost use Rattle.std.specs.Cmp.Lexicographic.{pointwise, lists_per, lists_equiv};
 ghost use Rattle.std.specs.FinMap.Entries.{find, put, is_sorted};
 ghost use Rattle.ec_base.specs.Sorted.{without};
-ghost use Rattle.ec_base.specs.SortedPlaces.{Stands, Goes};
+ghost use Rattle.ec_base.specs.SortedPlaces.{StandsAt, GoesAt};
 
 use crate::list::{Duplicate, NoMemory, duplicate_all};
 use std::alloc::Global;
@@ -111,7 +111,7 @@ impl<K: Ord, V> SortedMap<K, V> {
 
     /// The key's place, counted from 0 by rising keys, and its value. It's looked for at the place `near` first.
     pub fn find(&self, key: &K, near: usize) -> Option<(usize, &V)>
-        ensures { MatchOption result (find K.cmp key.now self.now ≡ None) (λ found. Stands K.cmp key.now self.now found.0 × (find K.cmp key.now self.now ≡ Some found.1.now)) }
+        ensures { MatchOption result (find K.cmp key.now self.now ≡ None) (λ found. StandsAt K.cmp key.now self.now found.0 × (find K.cmp key.now self.now ≡ Some found.1.now)) }
     {
         match slot_near(&self.items, key, near) {
             Ok(at) => Some((at, &self.items[at].1)),
@@ -157,7 +157,7 @@ impl<K: Ord, V> SortedMap<K, V> {
 
     /// Changes the value of a key that stands at this place.
     pub fn change_at<C: Change<V>>(&mut self, key: &K, place: usize, by: &C) -> Result<(), NoMemory>
-        requires stands { Stands K.cmp key.now self.old place }
+        requires stands { StandsAt K.cmp key.now self.old place }
         requires ready { C.ready by.now }
         ensures ok { OnOk result (MatchOption (find K.cmp key.now self.old) (self.new ≡ self.old) (λ v. self.new ≡ put K.cmp key.now (C.makes by.now v) self.old)) }
         ensures err { OnErr result (self.new ≡ self.old) }
@@ -227,7 +227,7 @@ impl<K: Ord + Duplicate + Drop, V: Duplicate + Drop> Duplicate for SortedMap<K, 
 // Where the key is, or where it would go.
 fn slot_of<K: Ord, V>(items: &[(K, V)], key: &K) -> Result<usize, usize>
     requires { T (is_sorted K.cmp items.now) }
-    ensures { MatchResult result (Stands K.cmp key.now items.now) (Goes K.cmp key.now items.now) }
+    ensures { MatchResult result (StandsAt K.cmp key.now items.now) (GoesAt K.cmp key.now items.now) }
 {
     items.binary_search_by(|(here, _)| here.cmp(key))
 }
@@ -235,7 +235,7 @@ fn slot_of<K: Ord, V>(items: &[(K, V)], key: &K) -> Result<usize, usize>
 // The same, where one place is looked at first.
 fn slot_near<K: Ord, V>(items: &[(K, V)], key: &K, near: usize) -> Result<usize, usize>
     requires { T (is_sorted K.cmp items.now) }
-    ensures { MatchResult result (Stands K.cmp key.now items.now) (Goes K.cmp key.now items.now) }
+    ensures { MatchResult result (StandsAt K.cmp key.now items.now) (GoesAt K.cmp key.now items.now) }
 {
     if let Some((here, _)) = items.get(near) {
         if let Ordering::Equal = here.cmp(key) {
@@ -289,7 +289,7 @@ fn change_value<K: Ord, V, C: Change<V>>(
     place: usize,
     by: &C,
 ) -> Result<(), NoMemory>
-    requires stands { Stands K.cmp key.now items.old.items place }
+    requires stands { StandsAt K.cmp key.now items.old.items place }
     requires ready { C.ready by.now }
     ensures ok { OnOk result (MatchOption (find K.cmp key.now items.old.items) (items.new.items ≡ items.old.items) (λ v. items.new.items ≡ put K.cmp key.now (C.makes by.now v) items.old.items)) }
     ensures err { OnErr result (items.new.items ≡ items.old.items) }

@@ -14,7 +14,7 @@ use Rattle.ec_order.specs.Order.{Issued, Holds}
 use Rattle.ec_chains.specs.Chains.{IsAt}
 use Rattle.ec_chains.specs.ClosureLaws.{above-held}
 use Rattle.ec_chains.specs.Held.{is_behind, settle}
-use Rattle.ec_chains.specs.Slots.{Slots, live, shown, placed}
+use Rattle.ec_chains.specs.Slots.{Slots, live, shown_update, placed}
 use Rattle.ec_chains.proofs.Chained.{tail-is}
 use Rattle.ec_chains.proofs.Live.{placed-length, placed-drop, placed-take, live-both, live-behind, live-before, live-fewer, live-left, sorted-live, sorted-left, placed-kept, live-kept, live-at, stays}
 use Rattle.ec_chains.proofs.Places.{no-item, found-held}
@@ -60,7 +60,7 @@ module _ (gone count op end : ℕ) (slots : Slots) (h : IsHeld gone slots count)
 
     placed-both : (xs ys : Slots) → placed (xs ++ ys) ≡ placed xs ++ placed ys
     placed-both [] ys = refl
-    placed-both (x ∷ xs) ys = ap (λ l. (x.0, shown x.1) ∷ l) (placed-both xs ys)
+    placed-both (x ∷ xs) ys = ap (λ l. (x.0, shown_update x.1) ∷ l) (placed-both xs ys)
 
     longer : (xs : Slots) (x : ℕ × Option Update) → length (xs ++ x ∷ []) ≡ length xs + 1
     longer [] x = refl

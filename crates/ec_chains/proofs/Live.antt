@@ -23,7 +23,7 @@ use Rattle.ec_chains.specs.ClosureLaws.{above-held}
 use Rattle.ec_chains.specs.Front.{Covers}
 use Rattle.ec_chains.specs.Held.{is_behind, settle, first_number}
 use Rattle.ec_chains.specs.SlotLaws.{live-next}
-use Rattle.ec_chains.specs.Slots.{Slots, with_one, live, shown, placed, IsThere}
+use Rattle.ec_chains.specs.Slots.{Slots, with_one, live, shown_update, placed, IsThere}
 use Rattle.ec_chains.specs.Walk.{passes, walk}
 use Rattle.ec_chains.specs.declared.closure.Ask.{Ask}
 use Rattle.ec_chains.specs.declared.closure.Ask.TheVariants.{Object, Op, All}
@@ -41,29 +41,29 @@ placed-length (s ∷ ss) = ap suc (placed-length ss)
 pub placed-take : (k : ℕ) (ss : Slots) → placed (take k ss) ≡ take k (placed ss)
 placed-take zero ss = refl
 placed-take (suc k) [] = refl
-placed-take (suc k) (s ∷ ss) = ap (λ l. (s.0, shown s.1) ∷ l) (placed-take k ss)
+placed-take (suc k) (s ∷ ss) = ap (λ l. (s.0, shown_update s.1) ∷ l) (placed-take k ss)
 
 pub placed-drop : (k : ℕ) (ss : Slots) → placed (drop k ss) ≡ drop k (placed ss)
 placed-drop zero ss = refl
 placed-drop (suc k) [] = refl
 placed-drop (suc k) (s ∷ ss) = placed-drop k ss
 
-pub placed-get : (ss : Slots) (i : ℕ) (x : ℕ × Option Update) → x ≡ get_or ss i x → (x.0, shown x.1) ≡ get_or (placed ss) i (x.0, shown x.1)
+pub placed-get : (ss : Slots) (i : ℕ) (x : ℕ × Option Update) → x ≡ get_or ss i x → (x.0, shown_update x.1) ≡ get_or (placed ss) i (x.0, shown_update x.1)
 placed-get [] i x e = refl
-placed-get (s ∷ ss) zero x e = ap (λ (y : ℕ × Option Update). (y.0, shown y.1)) e
+placed-get (s ∷ ss) zero x e = ap (λ (y : ℕ × Option Update). (y.0, shown_update y.1)) e
 placed-get (s ∷ ss) (suc i) x e = placed-get ss i x e
 
-pub placed-has : (obj : ℕ) (ss : Slots) (i : ℕ) (x : ℕ × Option Update) → x ≡ get_or ss i x → has_operand obj (get_or (placed ss) i (x.0, shown x.1)).1 ≡ has_operand obj (shown (get_or ss i x).1)
-placed-has obj ss i x e = ap (λ (y : ℕ × Update). has_operand obj y.1) (sym (placed-get ss i x e)) ∙ ap (λ (y : ℕ × Option Update). has_operand obj (shown y.1)) e
+pub placed-has : (obj : ℕ) (ss : Slots) (i : ℕ) (x : ℕ × Option Update) → x ≡ get_or ss i x → has_operand obj (get_or (placed ss) i (x.0, shown_update x.1)).1 ≡ has_operand obj (shown_update (get_or ss i x).1)
+placed-has obj ss i x e = ap (λ (y : ℕ × Update). has_operand obj y.1) (sym (placed-get ss i x e)) ∙ ap (λ (y : ℕ × Option Update). has_operand obj (shown_update y.1)) e
 
-pub placed-read : (ss : Slots) (i : ℕ) (x : ℕ × Update) → slice_get (placed ss) i ≡ Some x → (y : ℕ × Option Update) × (slice_get ss i ≡ Some y) × (x ≡ (y.0, shown y.1))
+pub placed-read : (ss : Slots) (i : ℕ) (x : ℕ × Update) → slice_get (placed ss) i ≡ Some x → (y : ℕ × Option Update) × (slice_get ss i ≡ Some y) × (x ≡ (y.0, shown_update y.1))
 placed-read [] i x e = absurd (no-item e)
 placed-read (s ∷ ss) zero x e = (s, refl, sym (same-item e))
 placed-read (s ∷ ss) (suc i) x e = placed-read ss i x e
 
-pub placed-there : (ss : Slots) (i : ℕ) (y : ℕ × Option Update) → slice_get ss i ≡ Some y → slice_get (placed ss) i ≡ Some (y.0, shown y.1)
+pub placed-there : (ss : Slots) (i : ℕ) (y : ℕ × Option Update) → slice_get ss i ≡ Some y → slice_get (placed ss) i ≡ Some (y.0, shown_update y.1)
 placed-there [] i y e = absurd (no-item e)
-placed-there (s ∷ ss) zero y e = ap (λ (z : ℕ × Option Update). Some (z.0, shown z.1)) (same-item e)
+placed-there (s ∷ ss) zero y e = ap (λ (z : ℕ × Option Update). Some (z.0, shown_update z.1)) (same-item e)
 placed-there (s ∷ ss) (suc i) y e = placed-there ss i y e
 
 -- Parts.
@@ -107,14 +107,14 @@ live-placed (s ∷ ss) n u h = go s.1 refl (live-placed ss n u) h
   where
     go : (o : Option Update) → s.1 ≡ o → (Holds (live ss) n u → Holds (placed ss) n u) → Holds (with_one s.0 o (live ss)) n u → Holds (placed (s ∷ ss)) n u
     go None e r k = inr (r k)
-    go (Some w) e r (inl k) = inl (k.0, ap shown e ∙ k.1)
+    go (Some w) e r (inl k) = inl (k.0, ap shown_update e ∙ k.1)
     go (Some w) e r (inr k) = inr (r k)
 
 pub placed-live : (ss : Slots) (n : ℕ) (u : Update) (o : ℕ) → Holds (placed ss) n u → T (has_operand o u) → Holds (live ss) n u
 placed-live [] n u o h t = h
 placed-live (s ∷ ss) n u o h t = go s.1 h (λ k. placed-live ss n u o k t)
   where
-    go : (w : Option Update) → Holds ((s.0, shown w) ∷ placed ss) n u → (Holds (placed ss) n u → Holds (live ss) n u) → Holds (with_one s.0 w (live ss)) n u
+    go : (w : Option Update) → Holds ((s.0, shown_update w) ∷ placed ss) n u → (Holds (placed ss) n u → Holds (live ss) n u) → Holds (with_one s.0 w (live ss)) n u
     go None (inl e) r = absurd (subst (λ v. T (has_operand o v)) (sym e.1) t)
     go None (inr k) r = r k
     go (Some w) (inl e) r = inl e
@@ -156,7 +156,7 @@ none-placed : (op : ℕ) (ss : Slots) → at op ss ≡ None → at op (placed ss
 none-placed op [] e = refl
 none-placed op (s ∷ ss) e = go (is_eq (nat_cmp op s.0)) e (none-placed op ss)
   where
-    go : (b : Bool) → cond b (Some s.1) (at op ss) ≡ None → (at op ss ≡ None → at op (placed ss) ≡ None) → cond b (Some (shown s.1)) (at op (placed ss)) ≡ None
+    go : (b : Bool) → cond b (Some s.1) (at op ss) ≡ None → (at op ss ≡ None → at op (placed ss) ≡ None) → cond b (Some (shown_update s.1)) (at op (placed ss)) ≡ None
     go true e r = absurd (no-item (sym e))
     go false e r = r e
 
@@ -201,7 +201,7 @@ above-placed : (m : ℕ) (ss : Slots) → T (below_all nat_cmp m (placed ss)) �
 above-placed m ss b u h = let l = above-held m (placed ss) b m u (live-placed ss m u h) in omega (arith, l)
 
 number-at : (op : ℕ) (s : ℕ × Option Update) (ss : Slots) → IsAt op (placed (s ∷ ss)) 0 → op ≡ s.0
-number-at op s ss p = sym (p.1 (s.0, shown s.1) refl)
+number-at op s ss p = sym (p.1 (s.0, shown_update s.1) refl)
 
 behind-at : (op : ℕ) (s : ℕ × Option Update) (ss : Slots) (i : ℕ) → T (is_sorted nat_cmp (placed (s ∷ ss))) → IsAt op (placed (s ∷ ss)) (suc i) → IsAt op (placed ss) i × (s.0 < op)
 behind-at op s ss i r p =
@@ -239,8 +239,8 @@ live-shorter (s ∷ ss) = go s.1 (live-shorter ss)
     go None l = omega (arith, l)
     go (Some u) l = omega (arith, l)
 
-pub placed-last : (held : Slots) (x : ℕ × Option Update) → x ≡ get_or held (length held - 1) x → (x.0, shown x.1) ≡ get_or (placed held) (length (placed held) - 1) (x.0, shown x.1)
-placed-last held x e = subst (λ n. (x.0, shown x.1) ≡ get_or (placed held) (n - 1) (x.0, shown x.1)) (sym (placed-length held)) (placed-get held (length held - 1) x e)
+pub placed-last : (held : Slots) (x : ℕ × Option Update) → x ≡ get_or held (length held - 1) x → (x.0, shown_update x.1) ≡ get_or (placed held) (length (placed held) - 1) (x.0, shown_update x.1)
+placed-last held x e = subst (λ n. (x.0, shown_update x.1) ≡ get_or (placed held) (n - 1) (x.0, shown_update x.1)) (sym (placed-length held)) (placed-get held (length held - 1) x e)
 
 -- One leaves.
 
@@ -298,7 +298,7 @@ placed-kept (s ∷ ss) = go s.1 refl (placed-kept ss)
   where
     go : (o : Option Update) → s.1 ≡ o → placed (filter (λ s. is_some s.1) ss) ≡ live ss → placed (cond (is_some o) (s ∷ filter (λ s. is_some s.1) ss) (filter (λ s. is_some s.1) ss)) ≡ with_one s.0 o (live ss)
     go None e r = r
-    go (Some u) e r = ap (λ w. (s.0, shown w) ∷ placed (filter (λ s. is_some s.1) ss)) e ∙ ap (λ l. (s.0, u) ∷ l) r
+    go (Some u) e r = ap (λ w. (s.0, shown_update w) ∷ placed (filter (λ s. is_some s.1) ss)) e ∙ ap (λ l. (s.0, u) ∷ l) r
 
 pub live-kept : (ss : Slots) → live (filter (λ s. is_some s.1) ss) ≡ live ss
 live-kept [] = refl
@@ -395,7 +395,7 @@ module _ (held : Slots) (op end : ℕ) (some : 0 < end) (l : end ≤ length held
   ends-below s q =
       ap (λ k. is_behind op (placed (take k held))) (sym back ∙ plus (end - 1))
       ∙ ap (is_behind op) (placed-take (suc (end - 1)) held)
-      ∙ front-behind (placed held) (end - 1) (x.0, shown x.1) s (placed-there held (end - 1) x (slice_get_read held (length held) (end - 1) x refl low is)) q
+      ∙ front-behind (placed held) (end - 1) (x.0, shown_update x.1) s (placed-there held (end - 1) x (slice_get_read held (length held) (end - 1) x refl low is)) q
     where
       plus : (k : ℕ) → k + 1 ≡ suc k
       plus k = omega arith
@@ -431,7 +431,7 @@ module _ (p : ℕ × Update → Bool) where
   walk-live [] a = refl
   walk-live (s ∷ ss) a = go s.1 refl (walk-live ss (apart-rest s ss a))
     where
-      go : (o : Option Update) → s.1 ≡ o → walk p (placed ss) ≡ walk p (live ss) → walk p ((s.0, shown o) ∷ placed ss) ≡ walk p (with_one s.0 o (live ss))
+      go : (o : Option Update) → s.1 ≡ o → walk p (placed ss) ≡ walk p (live ss) → walk p ((s.0, shown_update o) ∷ placed ss) ≡ walk p (with_one s.0 o (live ss))
       go (Some u) e r = ap (λ l. cond (p (s.0, u) || list_any (λ y. needs u y.1) l) ((s.0, u) ∷ l) l) r
       go None e r =
           ap (λ b. cond (b || list_any (λ y. needs (Order []) y.1) (walk p (placed ss))) ((s.0, Order []) ∷ walk p (placed ss)) (walk p (placed ss))) (apart-here s ss a e)
@@ -442,7 +442,7 @@ module _ (p : ℕ × Update → Bool) where
   filter-live [] a = refl
   filter-live (s ∷ ss) a = go s.1 refl (filter-live ss (apart-rest s ss a))
     where
-      go : (o : Option Update) → s.1 ≡ o → filter p (placed ss) ≡ filter p (live ss) → filter p ((s.0, shown o) ∷ placed ss) ≡ filter p (with_one s.0 o (live ss))
+      go : (o : Option Update) → s.1 ≡ o → filter p (placed ss) ≡ filter p (live ss) → filter p ((s.0, shown_update o) ∷ placed ss) ≡ filter p (with_one s.0 o (live ss))
       go (Some u) e r = ap (λ l. cond (p (s.0, u)) ((s.0, u) ∷ l) l) r
       go None e r = ap (λ b. cond b ((s.0, Order []) ∷ filter p (placed ss)) (filter p (placed ss))) (apart-here s ss a e) ∙ r
 

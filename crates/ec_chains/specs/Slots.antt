@@ -21,13 +21,13 @@ live [] = []
 live (s ∷ ss) = with_one s.0 s.1 (live ss)
 
 -- where one has left, an update of no object stands for its own
-abbrev pub shown : Option Update → Update
-shown None = Order []
-shown (Some u) = u
+abbrev pub shown_update : Option Update → Update
+shown_update None = Order []
+shown_update (Some u) = u
 
 -- the same at each place, so that places are those among the slots
 abbrev pub placed : Slots → Issued
-placed ss = map (λ s. (s.0, shown s.1)) ss
+placed ss = map (λ s. (s.0, shown_update s.1)) ss
 
 -- an operation that is asked for by its number is held
 abbrev pub IsThere : Ask → Slots → Type 0

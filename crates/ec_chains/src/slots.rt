@@ -8,7 +8,7 @@ ghost use Rattle.ec_volume.specs.declared.update.Update.{Update as Of};
 ghost use Rattle.ec_order.specs.Order.{Holds};
 ghost use Rattle.ec_chains.specs.Chains.{IsAt};
 ghost use Rattle.ec_chains.specs.Held.{is_behind, first_number};
-ghost use Rattle.ec_chains.specs.Slots.{live, shown, placed};
+ghost use Rattle.ec_chains.specs.Slots.{live, shown_update, placed};
 
 use crate::operand;
 use ec_base::{NoMemory, ObjId, OpNo};
@@ -39,7 +39,7 @@ pub fn update_of(held: &[Slot], op: OpNo) -> Option<&Update>
 
 /// Whether the object is an operand of the update. An operation that left has none.
 pub fn has_operand(update: &Option<Update>, obj: ObjId) -> bool
-    ensures { result ≡ has_operand obj (shown update.now) }
+    ensures { result ≡ has_operand obj (shown_update update.now) }
 {
     match update {
         Some(update) => operand::has_operand(update, obj),

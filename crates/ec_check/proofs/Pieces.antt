@@ -6,7 +6,7 @@ use Rattle.ec_history.specs.declared.shown.Shown.{Shown}
 use Rattle.ec_script.specs.Lines.{lines_of}
 use Rattle.std.specs.Prelude.{true, eqb, Result, Ok, Err, IsOk, IfOk, IfErr, IsErrAnd}
 use Rattle.ec_transcript.specs.Lines.{AreShown, IsBadLine}
-use Rattle.ec_transcript.specs.LinesRead.{IsRead, IsReadTo, HasBadLine, line_of, shifted}
+use Rattle.ec_transcript.specs.LinesRead.{TranscriptIsRead, IsReadTo, HasBadLine, line_of, shifted}
 use Rattle.ec_transcript.specs.declared.lines.ReadFault.{ReadFault}
 use Rattle.ec_transcript.specs.declared.lines.ReadFault.TheVariants as fault
 use Rattle.ec_transcript.proofs.Halves.{shown-append, bounded-append, bad-few}
@@ -22,7 +22,7 @@ read-none bytes = record {
   few = omega arith;
 }
 
-pub read-piece : (bytes rest piece behind : List ℕ) (ss ts : List Shown) → lines_of rest ≡ lines_of piece ++ lines_of behind → rest ≡ piece ++ behind → IsReadTo bytes rest ss → IsRead piece ts → IsReadTo bytes behind (ss ++ ts)
+pub read-piece : (bytes rest piece behind : List ℕ) (ss ts : List Shown) → lines_of rest ≡ lines_of piece ++ lines_of behind → rest ≡ piece ++ behind → IsReadTo bytes rest ss → TranscriptIsRead piece ts → IsReadTo bytes behind (ss ++ ts)
 read-piece bytes rest piece behind ss ts e b h k =
     let m : length (ss ++ ts) ≡ length ss + length ts = length-append ss ts in
     let n : length rest ≡ length piece + length behind = ap length b ∙ length-append piece behind in
@@ -74,7 +74,7 @@ taken-fault bytes rest piece behind ss (Err g) f e h k (inr q) = piece-fault byt
 
 -- What was taken in, of lines that were read.
 pub taken : {V : Type 0} (items : V → List Shown) (bytes rest piece behind : List ℕ) (ss new : List Shown) (r : Result V ReadFault) → lines_of rest ≡ lines_of piece ++ lines_of behind → rest ≡ piece ++ behind → IsReadTo bytes rest ss
-    → IfOk r (λ v. IsRead piece (items v)) → IsOk r → IfOk r (λ v. new ≡ ss ++ items v) → IsReadTo bytes behind new
+    → IfOk r (λ v. TranscriptIsRead piece (items v)) → IsOk r → IfOk r (λ v. new ≡ ss ++ items v) → IsReadTo bytes behind new
 taken items bytes rest piece behind ss new (Ok v) e b h k t q = subst (IsReadTo bytes behind) (sym q) (read-piece bytes rest piece behind ss (items v) e b h k)
 taken items bytes rest piece behind ss new (Err f) e b h k t q = absurd (false≢true t)
 

@@ -21,14 +21,14 @@ pub record IsChecked (old new : Option (List ℕ)) (most : ℕ) (checked : Check
   pub verdict : IsVerdict most shown checked
 
 -- The source gave these bytes and came to its end, and this is their first line outside the grammar.
-pub record IsBad (old new : Option (List ℕ)) (number column : ℕ) : Type 0 where
+pub record IsBadTranscript (old new : Option (List ℕ)) (number column : ℕ) : Type 0 where
   pub bytes : List ℕ
   pub whole : ReadWhole old new max_transcript_bytes bytes
   pub bad : IsBadLine bytes number column
 
 -- Why there is no verdict, by the bytes that are left of the source and by its faults, before and after.
 abbrev pub IsRefused : Option (List ℕ) → Option (List ℕ) → ℕ → ℕ → CheckFault → Type 0
-IsRefused old new before now (fault.BadLine n column) = IsBad old new n column
+IsRefused old new before now (fault.BadLine n column) = IsBadTranscript old new n column
 IsRefused old new before now fault.SourceFailed = Rose before now
 IsRefused old new before now (fault.Limit n) = (n ≡ max_transcript_bytes + 1) × ReadFailed old new before now max_transcript_bytes read.TooMany
 IsRefused old new before now fault.NoMemory = ⊤

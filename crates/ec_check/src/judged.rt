@@ -5,7 +5,7 @@ ghost use Rattle.std.specs.Thread.{IsSync};
 ghost use Rattle.ec_legal.specs.Bounded.{is_bounded_line};
 ghost use Rattle.ec_legal.specs.Tried.{IsTried, Stops};
 ghost use Rattle.ec_transcript.specs.Limits.{max_transcript_bytes};
-ghost use Rattle.ec_transcript.specs.LinesRead.{IsRead, IsReadTo, HasBadLine, line_of, shifted};
+ghost use Rattle.ec_transcript.specs.LinesRead.{TranscriptIsRead, IsReadTo, HasBadLine, line_of, shifted};
 ghost use Rattle.ec_check.specs.Verdicts.{IsVerdict};
 ghost use Rattle.ec_check.specs.Judged.{IsJudged};
 ghost use Rattle.ec_transcript.specs.declared.lines.ReadFault.TheVariants as unread;
@@ -99,7 +99,7 @@ fn read_beside<R: Threads + Sync>(
     requires few { length shown.now < 2 ^ 31 }
     requires bounded { T (list_all is_bounded_line shown.now) }
     requires tried { IsTried most trial.old shown.now }
-    ensures read { IfOk result.0 (λ lines. IsRead piece.now lines.items) }
+    ensures read { IfOk result.0 (λ lines. TranscriptIsRead piece.now lines.items) }
     ensures fault { IfErr result.0 (HasBadLine piece.now) }
     ensures tried { OnOk result.1 (IsTried most trial.new shown.now) }
     ensures stop { IfErr result.1 (Stops most trial.new.ahead shown.now) }
@@ -108,7 +108,7 @@ fn read_beside<R: Threads + Sync>(
         rt,
         &mut || -> Result<Vec<Shown>, ReadFault>
             requires { IsSync R.row × (length piece.now ≤ max_transcript_bytes) }
-            ensures { IfOk result (λ lines. IsRead piece.entry.now lines.items) × IfErr result (HasBadLine piece.entry.now) }
+            ensures { IfOk result (λ lines. TranscriptIsRead piece.entry.now lines.items) × IfErr result (HasBadLine piece.entry.now) }
         { read_parts(rt, alloc, piece, PARTS_BESIDE, 0) },
         &mut || -> Result<(), Stop>
             requires { IsSync R.row × (length shown.now < 2 ^ 31) × T (list_all is_bounded_line shown.now) × IsTried most trial.now shown.now }

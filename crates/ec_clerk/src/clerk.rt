@@ -7,7 +7,7 @@ ghost use Rattle.ec_plain.specs.declared.call.Call.{Call as Asking};
 ghost use Rattle.ec_protocol.specs.declared.clerk.ClerkFault.TheVariants as fault;
 ghost use Rattle.ec_protocol.specs.Clerk as clerk;
 ghost use Rattle.ec_protocol.specs.Flushes as flushes;
-ghost use Rattle.ec_doing.specs.Seen.{clerk_of, doing_of, Ends};
+ghost use Rattle.ec_doing.specs.Seen.{clerk_with, doing_of, EndsWith};
 
 use ec_base::{Age, ClerkId, Counter, LAST_COUNTER, NoMemory, OpNo, next};
 use ec_cache::Cache;
@@ -48,11 +48,11 @@ impl Drop for Clerk {
 
 impl Model for Clerk {
     ghost use Rattle.ec_protocol.specs.declared.clerk.Clerk.{Clerk as State};
-    ghost use Rattle.ec_doing.specs.Seen.{clerk_of};
+    ghost use Rattle.ec_doing.specs.Seen.{clerk_with};
 
     ghost Value = { State };
 
-    ghost view = { λ k. clerk_of k.waiting.items k.doing };
+    ghost view = { λ k. clerk_with k.waiting.items k.doing };
 }
 
 impl Clerk {
@@ -79,7 +79,7 @@ impl Clerk {
     /// Begins a call: its number, and what comes out. `Spent(CallNo)` where no number is left.
     pub fn begin(&mut self, call: Call) -> Result<(u64, Vec<Out>), ClerkFault>
         ensures no { IfOk result (λ begun. begun.0 ≡ self.old.calls + 1) }
-        ensures ok { IfOk result (λ begun. Ends (clerk.begin call self.old) self.new begun.1.items) }
+        ensures ok { IfOk result (λ begun. EndsWith (clerk.begin call self.old) self.new begun.1.items) }
         ensures spent { (c : Kind) → result ≡ Err (fault.Spent c) → (clerk.begin call self.old).spent ≡ Some c }
         ensures kept { (c : Kind) → result ≡ Err (fault.Spent c) → self.new ≡ self.old }
         ensures no_such { result ≡ Err fault.NoSuchOp → ⊥ }
@@ -114,7 +114,7 @@ impl Clerk {
     fn begin_by(&mut self, no: u64, call: Call) -> Result<Vec<Out>, NoMemory>
         requires next { no ≡ self.old.calls + 1 }
         requires below { self.old.calls < last_counter }
-        ensures { IfOk result (λ outs. Ends (clerk.begin call self.old) self.new outs.items) }
+        ensures { IfOk result (λ outs. EndsWith (clerk.begin call self.old) self.new outs.items) }
     {
         self.is_broken = true;
         let outs = step::begin(&mut self.doing, &mut self.waiting, no, call)?;
@@ -125,7 +125,7 @@ impl Clerk {
     /// Asks for an operation's closure until it's durable. `NoSuchOp` exactly where this start
     /// didn't issue it.
     pub fn push(&mut self, op: OpNo) -> Result<Vec<Out>, ClerkFault>
-        ensures ok { IfOk result (λ outs. Ends (clerk.push op self.old) self.new outs.items) }
+        ensures ok { IfOk result (λ outs. EndsWith (clerk.push op self.old) self.new outs.items) }
         ensures issued { OnOk result (clerk.has_issued op self.old ≡ true) }
         ensures no_such { result ≡ Err fault.NoSuchOp → clerk.has_issued op self.old ≡ false }
         ensures kept { result ≡ Err fault.NoSuchOp → self.new ≡ self.old }
@@ -144,7 +144,7 @@ impl Clerk {
     /// Takes a message. `Spent` where it would pass a counter.
     pub fn take(&mut self, msg: Msg) -> Result<Vec<Out>, ClerkFault>
         requires { is_sound msg ≡ true }
-        ensures ok { IfOk result (λ outs. Ends (clerk.take msg self.old) self.new outs.items) }
+        ensures ok { IfOk result (λ outs. EndsWith (clerk.take msg self.old) self.new outs.items) }
         ensures spent { (c : Kind) → result ≡ Err (fault.Spent c) → (clerk.take msg self.old).spent ≡ Some c }
         ensures kept { (c : Kind) → result ≡ Err (fault.Spent c) → self.new ≡ self.old }
         ensures no_such { result ≡ Err fault.NoSuchOp → ⊥ }
@@ -161,7 +161,7 @@ impl Clerk {
 
     /// Sends again what is held and what is outstanding; without a session it greets.
     pub fn resend(&mut self) -> Result<Vec<Out>, ClerkFault>
-        ensures ok { IfOk result (λ outs. Ends (clerk.resend self.old) self.new outs.items) }
+        ensures ok { IfOk result (λ outs. EndsWith (clerk.resend self.old) self.new outs.items) }
         ensures spent { (c : Kind) → result ≡ Err (fault.Spent c) → ⊥ }
         ensures no_such { result ≡ Err fault.NoSuchOp → ⊥ }
     {
@@ -183,7 +183,7 @@ impl Clerk {
 
     /// Says goodbye, in a session.
     pub fn bye(&mut self) -> Result<Vec<Out>, ClerkFault>
-        ensures ok { IfOk result (λ outs. Ends (clerk.bye self.old) self.new outs.items) }
+        ensures ok { IfOk result (λ outs. EndsWith (clerk.bye self.old) self.new outs.items) }
         ensures spent { (c : Kind) → result ≡ Err (fault.Spent c) → ⊥ }
         ensures no_such { result ≡ Err fault.NoSuchOp → ⊥ }
     {
@@ -197,7 +197,7 @@ impl Clerk {
     /// One pick, which isn't asked again. `Spent(Batch)` where no number of a batch is left.
     pub fn flush(&mut self, asked: Asked) -> Result<(Flushed, Vec<Out>), ClerkFault>
         ensures answer { IfOk result (λ made. made.0 ≡ flushes.flush_answer asked self.old) }
-        ensures ok { IfOk result (λ made. Ends (clerk.flush asked self.old) self.new made.1.items) }
+        ensures ok { IfOk result (λ made. EndsWith (clerk.flush asked self.old) self.new made.1.items) }
         ensures spent { (c : Kind) → result ≡ Err (fault.Spent c) → (clerk.flush asked self.old).spent ≡ Some c }
         ensures kept { (c : Kind) → result ≡ Err (fault.Spent c) → self.new ≡ self.old }
         ensures no_such { result ≡ Err fault.NoSuchOp → ⊥ }

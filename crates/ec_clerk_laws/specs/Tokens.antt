@@ -11,8 +11,8 @@ use Rattle.ec_protocol.specs.declared.clerk.Out.{Out}
 use Rattle.ec_protocol.specs.declared.clerk.Out.TheVariants as out
 
 -- the object is held by no lower a mode
-abbrev pub Keeps : ℕ → Clerk → Clerk → Type 0
-Keeps x k now = rank (mode x k.cache) ≤ rank (mode x now.cache)
+abbrev pub KeepsMode : ℕ → Clerk → Clerk → Type 0
+KeepsMode x k now = rank (mode x k.cache) ≤ rank (mode x now.cache)
 
 -- its token goes back
 abbrev pub gives_back : ℕ → Msg → Bool
@@ -35,8 +35,8 @@ is_end _ k = false
 
 -- Behind a step each token is held by no lower a mode, or the step gave it back.
 abbrev pub TokensStay : Clerk → Doing → Type 0
-TokensStay k d = (x : ℕ) → Keeps x k d.clerk ⊎ T (list_any (is_back x) d.outs)
+TokensStay k d = (x : ℕ) → KeepsMode x k d.clerk ⊎ T (list_any (is_back x) d.outs)
 
 -- So it is behind a message too, unless that grants the token anew, or ends the session.
 abbrev pub TokensStayBehind : Msg → Clerk → Doing → Type 0
-TokensStayBehind m k d = (x : ℕ) → Keeps x k d.clerk ⊎ (T (list_any (is_back x) d.outs) ⊎ T (is_granted x m || is_end m k))
+TokensStayBehind m k d = (x : ℕ) → KeepsMode x k d.clerk ⊎ (T (list_any (is_back x) d.outs) ⊎ T (is_granted x m || is_end m k))

@@ -16,7 +16,7 @@ use Rattle.ec_protocol.specs.declared.clerk.Clerk.{Clerk}
 use Rattle.ec_coherence.specs.System.{System, clerk_in, is_of, is_open, seen, undurable}
 use Rattle.ec_coherence.specs.Tokens.{IsWrite}
 use Rattle.ec_coherence.specs.Log as log
-use Rattle.ec_coherence.specs.Log.{HasWrites, IdsAgree, InSession, IsNumbered, Knows, LogAgrees, LogsAgree, OfOpen, makes, mine, next_of}
+use Rattle.ec_coherence.specs.Log.{HasWrites, IdsAgree, InSession, IsNumbered, Knows, LogAgrees, LogsAgree, OfOpen, made_by, mine, next_of}
 use Rattle.ec_coherence.specs.Images.{ImagesAgree}
 use Rattle.ec_coherence.specs.ChangeLaws.{Calls, IsInIt, LogsAndImages, with_clerk}
 use Rattle.ec_coherence.proofs.ClerkIn.{now-in, other-in, was-in}
@@ -72,11 +72,11 @@ module _ (g : System) (lo : LogsAgree g) (im : ImagesAgree g) (c s : ℕ) (age :
   ids-stay sl grants first os f = record {
     granted = f.granted;
     last = f.last;
-    distinct_ids = subst (λ z. T (distinct (z ++ makes (updates os)))) (sym same_ids) f.distinct_ids;
-    free = subst (λ z. Each (λ x. T (member x sl.unspent)) (z ++ makes (updates os))) (sym same_ids) f.free;
-    earlier = λ q. subst (λ z. Each (λ x. x < first) (z ++ makes (updates os))) (sym same_ids) (f.earlier (ap (λ z. z + 1) (sym same_got) ∙ q));
-    all = subst (λ z. Each (λ x. T (member x (z ++ makes (updates os))) ⊎ ((now.got + 1 ≡ grants) × (first ≤ x) × (x < first + 16))) sl.unspent) (sym same_ids)
-        (subst (λ z. Each (λ x. T (member x (k.ids ++ makes (updates os))) ⊎ ((z + 1 ≡ grants) × (first ≤ x) × (x < first + 16))) sl.unspent) (sym same_got) f.all);
+    distinct_ids = subst (λ z. T (distinct (z ++ made_by (updates os)))) (sym same_ids) f.distinct_ids;
+    free = subst (λ z. Each (λ x. T (member x sl.unspent)) (z ++ made_by (updates os))) (sym same_ids) f.free;
+    earlier = λ q. subst (λ z. Each (λ x. x < first) (z ++ made_by (updates os))) (sym same_ids) (f.earlier (ap (λ z. z + 1) (sym same_got) ∙ q));
+    all = subst (λ z. Each (λ x. T (member x (z ++ made_by (updates os))) ⊎ ((now.got + 1 ≡ grants) × (first ≤ x) × (x < first + 16))) sl.unspent) (sym same_ids)
+        (subst (λ z. Each (λ x. T (member x (k.ids ++ made_by (updates os))) ⊎ ((z + 1 ≡ grants) × (first ≤ x) × (x < first + 16))) sl.unspent) (sym same_got) f.all);
   }
 
   own-agrees : (j : ℕ) (sl : Slot) → slot g.durable j ≡ Some sl → sl.session ≡ s → T sl.is_open → LogAgrees h s sl now

@@ -21,7 +21,7 @@ use Rattle.ec_protocol.specs.declared.server.Server.{Server}
 use Rattle.ec_coherence.specs.System.{System, Ghost}
 use Rattle.ec_coherence.specs.Events.{EventsAgree, shown_boot}
 use Rattle.ec_coherence.specs.Steps.{call_of, end_lines, ended_line, record_lines, runs, serving_in}
-use Rattle.ec_coherence.specs.CommitLaws.{AllAgree, Stands}
+use Rattle.ec_coherence.specs.CommitLaws.{AllAgree, StepStands}
 use Rattle.ec_coherence.specs.Comes.{begun_at}
 use Rattle.ec_clerk_steps.specs.Calls.{Began, CallsAgree, IsBefore, IsOpenCall, LosesBelow, StartCalls, is_shown, told_to}
 use Rattle.ec_clerk_steps.specs.Waits.{AreAtRest, HasLine, does_wait}
@@ -151,7 +151,7 @@ record-quiet g (Some (record_of.End c s)) = ends-quiet g c (slot g.durable c)
 record-quiet g (Some (record_of.Ids c s got x)) = tt
 record-quiet g (Some (record_of.Epoch e)) = tt
 
-module _ (g : System) (all : AllAgree g) (γ : Ghost) (t : Serving) (st : Stands g t γ) where
+module _ (g : System) (all : AllAgree g) (γ : Ghost) (t : Serving) (st : StepStands g t γ) where
   pub served-calls : CallsAgree g → CallsAgree (serving_in t γ g)
   served-calls = calls-kept g t.server.durable (Some t.server) g.unshown (g.pool ++ t.sent) γ (all.0).events ((st.0).invariant).events (record_lines g t.rec) (st.0).shown (record-quiet g t.rec)
 

@@ -22,7 +22,7 @@ use Rattle.ec_coherence.specs.Steps.{call_of, less_call}
 use Rattle.ec_coherence.proofs.ClerkIn.{start-same}
 use Rattle.ec_coherence.proofs.Tables.{at-put, at-without, same_some}
 use Rattle.ec_coherence.specs.Comes.{begun_at}
-use Rattle.ec_clerk_steps.specs.Calls.{AreApart, Began, CallsAgree, IsBefore, IsOpenCall, LosesBelow, StartCalls, has_number, is_shown, told_to}
+use Rattle.ec_clerk_steps.specs.Calls.{HaveDistinctNumbers, Began, CallsAgree, IsBefore, IsOpenCall, LosesBelow, StartCalls, has_number, is_shown, told_to}
 use Rattle.ec_clerk_steps.specs.Waits.{HasLine}
 use Rattle.ec_clerk_steps.specs.CallLaws.{with_change}
 use Rattle.ec_clerk_steps.proofs.CallFrames.{lines-append}
@@ -56,7 +56,7 @@ each-at : {A : Type 0} (P : A → Type 0) (xs : List A) (y : A) (ys : List A) �
 each-at P [] y ys h = h.0
 each-at P (x ∷ xs) y ys h = each-at P xs y ys h.1
 
-apart-mid : (xs : List Waiting) (w : Waiting) (ys : List Waiting) → AreApart (xs ++ w ∷ ys) → Each (λ v. (v.no == w.no) ≡ false) (xs ++ ys) × AreApart (xs ++ ys)
+apart-mid : (xs : List Waiting) (w : Waiting) (ys : List Waiting) → HaveDistinctNumbers (xs ++ w ∷ ys) → Each (λ v. (v.no == w.no) ≡ false) (xs ++ ys) × HaveDistinctNumbers (xs ++ ys)
 apart-mid [] w ys a = a
 apart-mid (x ∷ xs) w ys a =
     let r = apart-mid xs w ys a.1 in
@@ -140,8 +140,8 @@ module _ (g : System) (old : EventsAgree g) (c b : ℕ) (k now : Clerk) (run : g
   still-call : (f m : ℕ) → ((f == c) && (m == w.no)) ≡ false → call_of f m h.calls ≡ call_of f m g.calls
   still-call f m d = call-less c w.no f m g.calls ∙ ap (λ z. cond z None (call_of f m g.calls)) d
 
-  mid : Each (λ v. (v.no == w.no) ≡ false) (before ++ after) × AreApart (before ++ after)
-  mid = apart-mid before w after (subst AreApart is its.apart)
+  mid : Each (λ v. (v.no == w.no) ≡ false) (before ++ after) × HaveDistinctNumbers (before ++ after)
+  mid = apart-mid before w after (subst HaveDistinctNumbers is its.apart)
 
   not-it : (v : Waiting) → (v.no == w.no) ≡ false → ((c == c) && (v.no == w.no)) ≡ false
   not-it v d = ap (λ z. (c == c) && z) d ∙ and_false (c == c)
@@ -176,7 +176,7 @@ module _ (g : System) (old : EventsAgree g) (c b : ℕ) (k now : Clerk) (run : g
   own-start : StartCalls h c b now
   own-start = record {
     lined = subst (λ vs. Each (λ v. (j : ℕ) × (call_of c v.no h.calls ≡ Some (j, v.call)) × Began h c b now v j) vs) (sym left) (lined-all (before ++ after) mid.0 turn (each-mid Lined before w after (subst (Each Lined) is its.lined)));
-    apart = subst AreApart (sym left) mid.1;
+    apart = subst HaveDistinctNumbers (sym left) mid.1;
     numbers = subst (λ n. Each (λ v. v.no ≤ n) now.waiting) (sym calls-same) (subst (λ vs. Each (λ v. v.no ≤ k.calls) vs) (sym left) (each-mid (λ v. v.no ≤ k.calls) before w after (subst (Each (λ v. v.no ≤ k.calls)) is its.numbers)));
     own = own;
     begun = within;

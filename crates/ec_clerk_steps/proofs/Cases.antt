@@ -15,7 +15,7 @@ use Rattle.ec_protocol.specs.Clerk.{Doing, doing, emit, epoch, has_session, hell
 use Rattle.ec_coherence.specs.System.{Ghost}
 use Rattle.ec_coherence.specs.Clerks.{take_session}
 use Rattle.ec_coherence.proofs.Tables.{differ}
-use Rattle.ec_clerk_steps.specs.JoinLaws.{IsBeside, IsOfSession, joined, tell_loss}
+use Rattle.ec_clerk_steps.specs.JoinLaws.{IsBeside, IsOfSession, ghosts_joined, tell_loss}
 use Rattle.ec_base.proofs.Numbers.{equal}
 
 same-ages : (a b : Age) → same_age a b ≡ true → a ≡ b
@@ -46,7 +46,7 @@ module _ (c : ℕ) (pool : List (ℕ × Msg)) (k : Clerk) (γ : Ghost) (P : Doin
   d = doing k
 
   abbrev pub Is : Msg → Type 0
-  Is m = T (is_some (taken m d).spent) ⊎ P (taken m d) (joined c m d γ)
+  Is m = T (is_some (taken m d).spent) ⊎ P (taken m d) (ghosts_joined c m d γ)
 
   old : (asked greatest : Age) → Is (OldBoot asked greatest)
   old asked greatest = inr (go (same_age asked k.age))

@@ -34,7 +34,7 @@ use Rattle.ec_resolve.specs.Agreement.{Shows}
 use Rattle.ec_resolve.specs.declared.verdict.Verdict.{Verdict}
 use Rattle.ec_resolve.specs.declared.verdict.Verdict.TheVariants.{Need, Lost, NeedIds, Done}
 use Rattle.ec_resolve.proofs.Settled.{done-comes}
-use Rattle.ec_protocol.specs.Clerk.{awaited, first_id, is_owing, last_of, on_object, verdict}
+use Rattle.ec_protocol.specs.Clerk.{awaited, first_id, is_owing, last_number, on_object, verdict}
 use Rattle.ec_protocol.specs.declared.clerk.Clerk.{Clerk}
 use Rattle.ec_protocol.specs.declared.clerk.Waiting.{Waiting}
 use Rattle.ec_coherence.specs.Answers.{Gives}
@@ -45,7 +45,7 @@ use Rattle.ec_clerk_steps.proofs.Rests.{rest-issued}
 use Rattle.ec_base.proofs.Options.{none_some}
 
 -- what stands behind a list is the last of both
-last-behind : (os : List ℕ) (x : ℕ) → last_of (os ++ x ∷ []) ≡ Some x
+last-behind : (os : List ℕ) (x : ℕ) → last_number (os ++ x ∷ []) ≡ Some x
 last-behind [] x = refl
 last-behind (o ∷ []) x = refl
 last-behind (o ∷ n ∷ os) x = last-behind (n ∷ os) x
@@ -184,7 +184,7 @@ module _ (base : Base) (most c sb : ℕ) (past : History) (legal : IsLegal base 
         ]) t) v)
         go (At x) t =
             let out : o ≡ answers reply.Ok (walk V path).read = sym plain-is ∙ ap (λ z. elim z as (λ y. Outcome) [ At obj ↦ answers reply.Ok (walk V path).read | Not r ↦ refuses r (walk V path).read ]) t in
-            let waits-for : awaited w.call o ≡ Some (Object x) = ap (λ z. awaited z o) e ∙ ap (awaited (call.Fsync path)) out ∙ ap on_object (ap last_of (walked-split V root path (walk V path).read x (walked V 0 root path x t)) ∙ last-behind (ids_of (with_names (walk V path).read path)) x) in
+            let waits-for : awaited w.call o ≡ Some (Object x) = ap (λ z. awaited z o) e ∙ ap (awaited (call.Fsync path)) out ∙ ap on_object (ap last_number (walked-split V root path (walk V path).read x (walked V 0 root path x t)) ∙ last-behind (ids_of (with_names (walk V path).read path)) x) in
             fsync-covers base past c sb place w.begun k.log done all-rest in-time p l path op x t (later o (Object x) verdict-is (ap (λ z. z.update) out) waits-for) n v
 
     sync-done : w.call ≡ call.Sync → Gives m k (verdict w.call k) (answer.Reply reply.Ok) op left → Covers base past (p, entry.Call c sb l place call.Sync (answer.Reply reply.Ok) op) c sb n → T (done n)

@@ -11,7 +11,7 @@ use Rattle.ec_sessions.specs.declared.slot.Slot.{Slot}
 use Rattle.ec_durable.specs.Durable.{made, slot}
 use Rattle.ec_protocol.specs.declared.clerk.Clerk.{Clerk}
 use Rattle.ec_coherence.specs.System.{System, clerk_in, is_of, undurable}
-use Rattle.ec_coherence.specs.Log.{HasWrites, IdsAgree, LogsAgree, makes}
+use Rattle.ec_coherence.specs.Log.{HasWrites, IdsAgree, LogsAgree, made_by}
 use Rattle.ec_coherence.specs.Images.{ImagesAgree}
 use Rattle.ec_coherence.proofs.Carried.{gone-is}
 use Rattle.ec_coherence.proofs.Ending.{untouched-after}
@@ -23,16 +23,16 @@ use Rattle.ec_base.proofs.Bools.{left as and_first, not-both as no_both, and-bot
 use Rattle.ec_base.proofs.Numbers.{equal}
 
 -- what one of these operations makes, which passes the test
-in-makes : (test : Op → Bool) (x : ℕ) (front back : List Op) (o : Op) → T (test o) → T (member x (listed (made o.update))) → T (member x (makes (updates (filter test (front ++ o ∷ back)))))
-in-makes test x [] back o t m = subst (λ z. T (member x (makes (updates z)))) (sym (filter-yes test o back (is-true (test o) t))) (in-front x (listed (made o.update)) (makes (updates (filter test back))) m)
+in-makes : (test : Op → Bool) (x : ℕ) (front back : List Op) (o : Op) → T (test o) → T (member x (listed (made o.update))) → T (member x (made_by (updates (filter test (front ++ o ∷ back)))))
+in-makes test x [] back o t m = subst (λ z. T (member x (made_by (updates z)))) (sym (filter-yes test o back (is-true (test o) t))) (in-front x (listed (made o.update)) (made_by (updates (filter test back))) m)
 in-makes test x (f ∷ fs) back o t m = go (test f) refl (in-makes test x fs back o t m)
   where
     rest : List Op
     rest = fs ++ o ∷ back
 
-    go : (b : Bool) → test f ≡ b → T (member x (makes (updates (filter test (fs ++ o ∷ back))))) → T (member x (makes (updates (filter test (f ∷ fs ++ o ∷ back)))))
-    go true e r = subst (λ z. T (member x (makes (updates z)))) (sym (filter-yes test f (fs ++ o ∷ back) e)) (in-back x (listed (made f.update)) (makes (updates (filter test (fs ++ o ∷ back)))) r)
-    go false e r = subst (λ z. T (member x (makes (updates z)))) (sym (filter-no test f (fs ++ o ∷ back) e)) r
+    go : (b : Bool) → test f ≡ b → T (member x (made_by (updates (filter test (fs ++ o ∷ back))))) → T (member x (made_by (updates (filter test (f ∷ fs ++ o ∷ back)))))
+    go true e r = subst (λ z. T (member x (made_by (updates z)))) (sym (filter-yes test f (fs ++ o ∷ back) e)) (in-back x (listed (made f.update)) (made_by (updates (filter test (fs ++ o ∷ back)))) r)
+    go false e r = subst (λ z. T (member x (made_by (updates z)))) (sym (filter-no test f (fs ++ o ∷ back) e)) r
 
 in-both : (x : ℕ) (xs ys : List ℕ) → T (distinct (xs ++ ys)) → T (member x xs) → T (member x ys) → ⊥
 in-both x [] ys d m n = m
@@ -53,13 +53,13 @@ module _ (g : System) (lo : LogsAgree g) (im : ImagesAgree g) (c s : ℕ) (sl : 
   ids = (lo.logs s c sl here of opened k there).ids
 
   in-store : T (member x sl.unspent)
-  in-store = each-at (λ y. T (member y sl.unspent)) x (k.ids ++ makes (updates (undurable g.ghost s))) ids.free (in-front x k.ids (makes (updates (undurable g.ghost s))) free)
+  in-store = each-at (λ y. T (member y sl.unspent)) x (k.ids ++ made_by (updates (undurable g.ghost s))) ids.free (in-front x k.ids (made_by (updates (undurable g.ghost s))) free)
 
   gone-there : after g.origin (updates (filter dur g.ghost.kept)) x ≡ Gone
   gone-there = sym (im.server x) ∙ gone-is (images (g.durable).volume x) (is-true (is_gone (images (g.durable).volume x)) (lo.unspent s x c sl here of opened in-store).1)
 
-  made-in : (t : ℕ) (m : IsMadeIn dur x Writes g.ghost.kept) → T (is_of (g.ghost.owner t) m.op) → T (member x (makes (updates (undurable g.ghost t))))
-  made-in t m own = subst (λ z. T (member x (makes (updates (filter (λ o. is_of (g.ghost.owner t) o && not (dur o)) z))))) (sym m.whole)
+  made-in : (t : ℕ) (m : IsMadeIn dur x Writes g.ghost.kept) → T (is_of (g.ghost.owner t) m.op) → T (member x (made_by (updates (undurable g.ghost t))))
+  made-in t m own = subst (λ z. T (member x (made_by (updates (filter (λ o. is_of (g.ghost.owner t) o && not (dur o)) z))))) (sym m.whole)
       (in-makes (λ o. is_of (g.ghost.owner t) o && not (dur o)) x m.front m.back m.op (and_both (is_of (g.ghost.owner t) m.op) (not (dur m.op)) own m.pending) m.makes)
 
   impossible : IsMadeIn dur x Writes g.ghost.kept → ⊥
@@ -68,11 +68,11 @@ module _ (g : System) (lo : LogsAgree g) (im : ImagesAgree g) (c s : ℕ) (sl : 
       let q = open-at w.session (g.durable).sessions w.is_open in
       let its = made-in w.session m w.own in
       elim (cases_eq s w.session) [
-        | inl e ↦ in-both x k.ids (makes (updates (undurable g.ghost s))) ids.distinct_ids free (subst (λ t. T (member x (makes (updates (undurable g.ghost t))))) (sym e) its)
+        | inl e ↦ in-both x k.ids (made_by (updates (undurable g.ghost s))) ids.distinct_ids free (subst (λ t. T (member x (made_by (updates (undurable g.ghost t))))) (sym e) its)
         | inr n ↦
             let others = (lo.logs w.session q.0 q.1 (q.2).0 (q.2).1 (q.2).2 w.clerk w.in_place).ids in
             no_both (member x (q.1).unspent)
-            (each-at (λ y. T (member y (q.1).unspent)) x ((w.clerk).ids ++ makes (updates (undurable g.ghost w.session))) others.free (in-back x (w.clerk).ids (makes (updates (undurable g.ghost w.session))) its))
+            (each-at (λ y. T (member y (q.1).unspent)) x ((w.clerk).ids ++ made_by (updates (undurable g.ghost w.session))) others.free (in-back x (w.clerk).ids (made_by (updates (undurable g.ghost w.session))) its))
             (lo.apart s w.session x n c sl here of opened q.0 q.1 (q.2).0 (q.2).1 (q.2).2 in-store)
       ]
 

@@ -29,13 +29,13 @@ use Rattle.ec_clerk_steps.proofs.Spent.{spent-stays, IsSpent, again}
 use Rattle.ec_coherence.specs.Answers.{Gives, op_given}
 use Rattle.ec_clerk_steps.specs.Answering.{Suits, answered_clerk, done_clerk}
 use Rattle.ec_clerk_steps.specs.AnswerLaws.{AllTriesStand, IsTried, TriesStand}
-use Rattle.ec_clerk_steps.specs.Trying.{Answers, IsTrying}
+use Rattle.ec_clerk_steps.specs.Trying.{AnswersWith, IsTrying}
 use Rattle.ec_clerk_steps.proofs.Single as single
 use Rattle.ec_clerk_steps.proofs.Stays.{StaysOn, stays-on}
 
 -- The step, behind an answer that leaves the clerk so.
 abbrev pub Comes : (g : System) (c b : ℕ) (d : Doing) (γ : Ghost) → ℕ → Waiting → Answer → Option ℕ → Clerk → Type 0
-Comes g c b d γ l w a op now = (δ : Ghost) × Answers g c b d γ l w.call a op δ × IsTrying g c b (record d { clerk = now; outs = d.outs ++ out.Answer w.no a op ∷ [] }) δ
+Comes g c b d γ l w a op now = (δ : Ghost) × AnswersWith g c b d γ l w.call a op δ × IsTrying g c b (record d { clerk = now; outs = d.outs ++ out.Answer w.no a op ∷ [] }) δ
     × Each (HasLine (doing_in c b (record d { clerk = now; outs = d.outs ++ out.Answer w.no a op ∷ [] }) δ g) c) now.waiting
 
 -- Behind each answer that its verdict gives it stands.

@@ -17,7 +17,7 @@ use Rattle.ec_protocol.specs.Clerk.{first_id, less_id, suits, verdict}
 use Rattle.ec_protocol.specs.declared.clerk.Clerk.{Clerk}
 use Rattle.ec_coherence.specs.System.{System, clerk_in, is_open, seen_ops, undurable}
 use Rattle.ec_coherence.specs.Tokens.{IsWrite, Names, is_hidden, side, side_in, view}
-use Rattle.ec_coherence.specs.Log.{makes}
+use Rattle.ec_coherence.specs.Log.{made_by}
 use Rattle.ec_coherence.specs.ChangeLaws.{IsInIt}
 use Rattle.ec_coherence.proofs.CacheChange.{suits-held}
 use Rattle.ec_coherence.proofs.ClerkIn.{owned}
@@ -117,9 +117,9 @@ module _ (g : System) (all : AllAgree g) (c s : ℕ) (age : Age) (k : Clerk) (in
           let my-ids = (((all.0).logs).logs s c l.slot_of l.here l.of l.opened k its).ids in
           let their-ids = (((all.0).logs).logs t r.0 r.1 (r.2).0 (r.2).1 (r.2).2 m there-t).ids in
           no_both (member x (r.1).unspent)
-          (each-at (λ v. T (member v (r.1).unspent)) x (m.ids ++ makes (updates (undurable g.ghost t))) their-ids.free (in-front x m.ids (makes (updates (undurable g.ghost t))) z))
+          (each-at (λ v. T (member v (r.1).unspent)) x (m.ids ++ made_by (updates (undurable g.ghost t))) their-ids.free (in-front x m.ids (made_by (updates (undurable g.ghost t))) z))
           (((all.0).logs).apart s t x d c l.slot_of l.here l.of l.opened r.0 r.1 (r.2).0 (r.2).1 (r.2).2
-          (each-at (λ v. T (member v (l.slot_of).unspent)) x (k.ids ++ makes (updates (undurable g.ghost s))) my-ids.free (in-front x k.ids (makes (updates (undurable g.ghost s))) mine)))
+          (each-at (λ v. T (member v (l.slot_of).unspent)) x (k.ids ++ made_by (updates (undurable g.ghost s))) my-ids.free (in-front x k.ids (made_by (updates (undurable g.ghost s))) mine)))
 
   -- all are named
   pub op-named : Each (Names (view g)) (operands u)

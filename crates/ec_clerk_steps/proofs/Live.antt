@@ -16,7 +16,7 @@ use Rattle.ec_coherence.proofs.OpenSlots.{open-at}
 use Rattle.ec_coherence.proofs.Tables.{each-map, same_some}
 use Rattle.ec_coherence.specs.CommitLaws.{AllAgree}
 use Rattle.ec_coherence.specs.Answers.{IsLive, Sees, id_of}
-use Rattle.ec_coherence.specs.Comes.{Marked}
+use Rattle.ec_coherence.specs.Comes.{DurableAreMarked}
 use Rattle.ec_clerk_steps.specs.Zeros.{ZerosAgree}
 use Rattle.ec_clerk_steps.proofs.Free.{free-gone, free-unused}
 use Rattle.ec_clerk_steps.proofs.Unmade.{Leaves}
@@ -76,7 +76,7 @@ module _ (g : System) (all : AllAgree g) (c s : ℕ) (age : Age) (k : Clerk) (in
         each-map (Leaves g.ghost.is_durable x) (λ j. (j.clerk == c) ≡ false → T (not (g.ghost.is_durable j)) → T (member x (operands j.update)) → ⊥) g.ghost.kept (λ j f n d m. no_both (has_operand x j.update) m (f d))
         (free-unused g (all.0).logs (all.0).images c s l.slot_of k l.here l.of l.opened there x (subst (λ z. T (member x z)) (sym e) (subst (λ b. T (b || member x xs)) (sym (same x)) tt)))
 
-    pub marked : Marked g c k
+    pub marked : DurableAreMarked g c k
     marked = record {
       alike = (all.3).alike;
       above = (all.3).above;

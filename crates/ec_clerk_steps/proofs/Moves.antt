@@ -12,7 +12,7 @@ use Rattle.ec_coherence.specs.System.{System, Ghost, at_session, is_of}
 use Rattle.ec_coherence.specs.Steps.{Committed, give_ids, serving_in}
 use Rattle.ec_coherence.specs.Stops.{RunsOn}
 use Rattle.ec_coherence.proofs.OpenSlots.{at-open}
-use Rattle.ec_coherence.specs.CommitLaws.{AllAgree, Stands}
+use Rattle.ec_coherence.specs.CommitLaws.{AllAgree, StepStands}
 use Rattle.ec_coherence.specs.Makes.{Makes}
 use Rattle.ec_clerk_steps.specs.Names.{NamesAgree}
 use Rattle.ec_clerk_steps.specs.Follows.{AreGiven}
@@ -48,7 +48,7 @@ module _ (g : System) (all : AllAgree g) where
   abbrev lost : ℕ → Op → Bool
   lost s k = not (is_of (g.ghost.owner s) k && not (g.ghost.is_durable k))
 
-module _ (g : System) (v : Server) (f : Serving) (γ : Ghost) (all : AllAgree g) (up : g.server ≡ Some v) (st : Stands g f γ) where
+module _ (g : System) (v : Server) (f : Serving) (γ : Ghost) (all : AllAgree g) (up : g.server ≡ Some v) (st : StepStands g f γ) where
   same-state : v.durable ≡ g.durable
   same-state = (subst (RunsOn g) up (all.0).stops.runs).0
 

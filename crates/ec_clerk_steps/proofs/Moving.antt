@@ -21,7 +21,7 @@ use Rattle.ec_coherence.proofs.Goes as steps
 use Rattle.ec_coherence.proofs.OnSystem.{begins}
 use Rattle.ec_coherence.specs.CommitLaws.{AllAgree}
 use Rattle.ec_coherence.specs.Starts.{Greets}
-use Rattle.ec_coherence.specs.StandLaws.{AreSent, ClerkStands, GoesOn, IsUnderWay, sending}
+use Rattle.ec_coherence.specs.StandLaws.{AreSent, ClerkStands, SessionGoesOn, IsUnderWay, sending}
 use Rattle.ec_coherence.proofs.Doings as going
 use Rattle.ec_coherence.proofs.Doings.{goes-on-stand}
 use Rattle.ec_coherence.proofs.Rests.{rests-both}
@@ -36,7 +36,7 @@ module _ (g : System) (c b s : ℕ) (d : Doing) (γ : Ghost) (u : IsUnderWay g c
   pub own : IsIn g γ c b s d.clerk
   own = record { session = u.session; age = u.age; owner = u.owns; boot = u.boot; before = u.before }
 
-  pub on-same : GoesOn d.clerk d.clerk
+  pub on-same : SessionGoesOn d.clerk d.clerk
   on-same = record { id = refl; age = refl; session = refl; owed = refl; next = refl }
 
   pub its : IsInIt here c s u.age d.clerk
@@ -72,7 +72,7 @@ module _ (g : System) (c b s : ℕ) (d : Doing) (γ : Ghost) (u : IsUnderWay g c
   said ms = map (λ m. (c, m)) ms
 
   -- the clerk changes, and sends these
-  pub does : (now : Clerk) → GoesOn d.clerk now → (ms : List Msg) → AreSent here (said ms) → TokensAgree (acting w c s (sending now ms d)) → LogsAndImages (with_clerk here c (u.age).boot now here.calls (said ms))
+  pub does : (now : Clerk) → SessionGoesOn d.clerk now → (ms : List Msg) → AreSent here (said ms) → TokensAgree (acting w c s (sending now ms d)) → LogsAndImages (with_clerk here c (u.age).boot now here.calls (said ms))
       → IsUnderWay g c b s (sending now ms d) γ
   does now on ms sent agree both = under (sending now ms d) (goes-on-stand g c b s d γ u.stands u.age u.owns u.boot u.session now on ms sent (tokens-behind (sending now ms d) (on.session ∙ u.session) agree)
       (subst LogsAndImages (going.system-is g c b s d γ u.stands u.age u.owns u.boot u.session now on ms) both)) (on.session ∙ u.session)
@@ -85,7 +85,7 @@ module _ (g : System) (c b s : ℕ) (d : Doing) (γ : Ghost) (u : IsUnderWay g c
       (rests-both here all c s u.age d.clerk d.clerk its on-same refl refl refl here.calls ((c, m) ∷ []) (subst (λ h. Each {A = ℕ × Msg} (λ m. log.Fits h m.1) ((c, m) ∷ [])) (sym path) (logs, tt)))
 
   -- it changes
-  pub changes : (now : Clerk) → GoesOn d.clerk now → TokensAgree (acting w c s (record d { clerk = now })) → LogsAndImages (with_clerk here c (u.age).boot now here.calls []) → IsUnderWay g c b s (record d { clerk = now }) γ
+  pub changes : (now : Clerk) → SessionGoesOn d.clerk now → TokensAgree (acting w c s (record d { clerk = now })) → LogsAndImages (with_clerk here c (u.age).boot now here.calls []) → IsUnderWay g c b s (record d { clerk = now }) γ
   changes now on agree both =
       let quiet : sending now [] d ≡ record d { clerk = now } = ap (λ os. record d { clerk = now; outs = os }) (append-nil d.outs) in
       subst (λ e. IsUnderWay g c b s e γ) quiet (does now on [] tt (subst (λ e. TokensAgree (acting w c s e)) (sym quiet) agree) both)

@@ -19,14 +19,14 @@ use Rattle.ec_coherence.specs.ChangeLaws.{Calls, with_clerk}
 use Rattle.ec_coherence.proofs.Lists.{each-more, each-turn}
 use Rattle.ec_coherence.specs.CommitLaws.{AllAgree}
 use Rattle.ec_coherence.specs.Starts.{Greets}
-use Rattle.ec_coherence.specs.StandLaws.{AreSent, GoesOn}
+use Rattle.ec_coherence.specs.StandLaws.{AreSent, SessionGoesOn}
 use Rattle.ec_clerk_steps.specs.Cuts.{CutsAgree}
 use Rattle.ec_clerk_steps.proofs.Kept as kept
 use Rattle.ec_clerk_steps.proofs.SameIn as still
 use Rattle.ec_protocol.specs.Clerk.{is_session}
 use Rattle.ec_base.proofs.Numbers.{equal}
 
-module _ (g : System) (all : AllAgree g) (c b : ℕ) (k now : Clerk) (at-start : g.clerks c b ≡ Some k) (without : k.session ≡ None) (on : GoesOn k now) (same_side : side now ≡ side k) (same_ids : now.ids ≡ k.ids) (same_log : now.log ≡ k.log) (same_asking : now.asking ≡ k.asking)
+module _ (g : System) (all : AllAgree g) (c b : ℕ) (k now : Clerk) (at-start : g.clerks c b ≡ Some k) (without : k.session ≡ None) (on : SessionGoesOn k now) (same_side : side now ≡ side k) (same_ids : now.ids ≡ k.ids) (same_log : now.log ≡ k.log) (same_asking : now.asking ≡ k.asking)
     (calls : Calls) (ms : List (ℕ × Msg)) (sent : AreSent g ms) (fits : Each (λ m. Fits (view g) m.1) ms) (logs : Each (λ m. log.Fits g m.1) ms) where
   abbrev h : System
   h = with_clerk g c b now calls ms

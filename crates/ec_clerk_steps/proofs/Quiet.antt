@@ -12,7 +12,7 @@ use Rattle.ec_coherence.specs.Events.{shown_boot}
 use Rattle.ec_coherence.specs.Steps.{call_of, doing_in}
 use Rattle.ec_coherence.proofs.ClerkIn.{start-same}
 use Rattle.ec_coherence.proofs.Tables.{same_some}
-use Rattle.ec_clerk_steps.specs.Calls.{AreApart, Began, CallsAgree, IsOpenCall, LosesBelow, StartCalls, has_number, told_to}
+use Rattle.ec_clerk_steps.specs.Calls.{HaveDistinctNumbers, Began, CallsAgree, IsOpenCall, LosesBelow, StartCalls, has_number, told_to}
 use Rattle.ec_clerk_steps.specs.Waits.{HasLine}
 use Rattle.ec_clerk_steps.specs.CallLaws.{IsQuiet}
 use Rattle.ec_base.proofs.Numbers.{equal}
@@ -74,7 +74,7 @@ module _ (g : System) (c b : ℕ) (d e : Doing) (γ : Ghost) (quiet : IsQuiet d 
     lined = subst (λ ws. Each (λ w. (l : ℕ) × (call_of c w.no now.calls ≡ Some (l, w.call)) × Began now c b e.clerk w l) ws) (sym quiet.waiting)
         (each-map (λ w. (l : ℕ) × (call_of c w.no was.calls ≡ Some (l, w.call)) × Began was c b d.clerk w l) (λ w. (l : ℕ) × (call_of c w.no now.calls ≡ Some (l, w.call)) × Began now c b e.clerk w l)
         (λ w x. (x.0, same-call c w.no ∙ x.1, record { now = λ n. (x.2).now n ∙ sym quiet.next; earlier = (x.2).earlier })) d.clerk.waiting q.lined);
-    apart = subst AreApart (sym quiet.waiting) q.apart;
+    apart = subst HaveDistinctNumbers (sym quiet.waiting) q.apart;
     numbers = subst (λ ws. Each (λ w. w.no ≤ e.clerk.calls) ws) (sym quiet.waiting) (subst (λ n. Each (λ w. w.no ≤ n) d.clerk.waiting) (sym quiet.calls) q.numbers);
     own = subst (λ n. T (is_from n e.clerk.log.undurable)) (sym quiet.first) (quiet.own d.clerk.log.first q.own);
     begun = subst (λ n. n ≤ e.clerk.log.next) (sym quiet.first) (subst (λ n. d.clerk.log.first ≤ n) (sym quiet.next) q.begun);

@@ -38,7 +38,7 @@ use Rattle.ec_coherence.specs.CommitLaws.{AllAgree, show_batch}
 use Rattle.ec_coherence.specs.Ends.{show_end}
 use Rattle.ec_coherence.proofs.Its as its
 use Rattle.ec_clerk_steps.specs.Cuts.{CutKnows, CutsAgree}
-use Rattle.ec_clerk_steps.specs.Frames.{behind}
+use Rattle.ec_clerk_steps.specs.Frames.{system_behind}
 use Rattle.ec_clerk_steps.proofs.Keeping.{keeps-knowing}
 use Rattle.ec_clerk_steps.proofs.Slots.{its-slot, none-later}
 use Rattle.ec_clerk_steps.proofs.Steps.{batch-others, end-others, end-own, ids-open, ids-others, open-others, open-steps}
@@ -101,10 +101,10 @@ module _ (g : System) (all : AllAgree g) (cuts : CutsAgree g) (d : Durable) (v :
     abbrev γb : Ghost
     γb = show_batch c (sl.age).boot (keys ops) g.ghost
 
-    pub batch-keeps : CutsAgree (behind g d v p γb)
+    pub batch-keeps : CutsAgree (system_behind g d v p γb)
     batch-keeps f b s m ks r q o z =
         let n = apart c sl in_slot opened f b s m ks r q o z in
-        keeps-knowing g (behind g d v p γb) f s m m ks (λ sl p os dur kn. kn) (batch-others c f n s' b' ops g.durable d steps) refl (durable n) (durable-untold f c (keys ops) g.ghost.shown) (cuts f b s m ks r q o z)
+        keeps-knowing g (system_behind g d v p γb) f s m m ks (λ sl p os dur kn. kn) (batch-others c f n s' b' ops g.durable d steps) refl (durable n) (durable-untold f c (keys ops) g.ghost.shown) (cuts f b s m ks r q o z)
       where
         same-or : (x y z : Bool) → y ≡ false → (x || (y && z)) ≡ x
         same-or true y z e = refl
@@ -124,10 +124,10 @@ module _ (g : System) (all : AllAgree g) (cuts : CutsAgree g) (d : Durable) (v :
     has-slot None e t = absurd (true≢false (sym t))
     has-slot (Some sl) e t = (sl, e, and_first sl.is_open (sl.session == s') (holds _ t))
 
-    pub ids-keep : CutsAgree (behind g d v p γi)
+    pub ids-keep : CutsAgree (system_behind g d v p γi)
     ids-keep f b s m ks r q o z =
         let w = has-slot (slot g.durable c) refl (ids-open c s' got first g.durable d steps) in
-        keeps-knowing g (behind g d v p γi) f s m m ks (λ sl p os dur kn. kn) (ids-others c f (apart c w.0 w.1 w.2 f b s m ks r q o z) s' got first g.durable d steps) refl (λ o t. refl) refl (cuts f b s m ks r q o z)
+        keeps-knowing g (system_behind g d v p γi) f s m m ks (λ sl p os dur kn. kn) (ids-others c f (apart c w.0 w.1 w.2 f b s m ks r q o z) s' got first g.durable d steps) refl (λ o t. refl) refl (cuts f b s m ks r q o z)
 
   module _ (c : ℕ) (sl : Slot) (in_slot : slot g.durable c ≡ Some sl) (opened : T sl.is_open) where
     abbrev γe : Ghost
@@ -186,7 +186,7 @@ module _ (g : System) (all : AllAgree g) (cuts : CutsAgree g) (d : Durable) (v :
           ∙ ap Some (its.still-now g all.0 all.1 all.3 c sl in_slot opened)
 
       -- its slot has the window still
-      pub cut-now : ((so : Slot) → slot d c ≡ Some so → so.window ≡ sl.window) → CutKnows (behind g d v p γe) c sl.session m g.ghost.kept
+      pub cut-now : ((so : Slot) → slot d c ≡ Some so → so.window ≡ sl.window) → CutKnows (system_behind g d v p γe) c sl.session m g.ghost.kept
       cut-now window = record {
         knows = λ so e. subst (λ x. Knows m.log x (mine g.ghost sl.session) g.ghost.is_durable) (sym (window so e)) (open-knows g all c b m r q sl in_slot opened o);
         untold = now-untold;
@@ -204,7 +204,7 @@ module _ (g : System) (all : AllAgree g) (cuts : CutsAgree g) (d : Durable) (v :
 
     module _ (s' : ℕ) (steps : step (End c s') g.durable ≡ Ok d) where
       abbrev h : System
-      h = behind g d v p γe
+      h = system_behind g d v p γe
 
       pub end-keeps : CutsAgree h
       end-keeps f b s m ks r q o z = by-session sl.session s (λ s. g.ghost.owner s ≡ Some (f, m.age) → γe.frozen s ≡ Some ks → CutKnows h f s m ks) own
@@ -218,9 +218,9 @@ module _ (g : System) (all : AllAgree g) (cuts : CutsAgree g) (d : Durable) (v :
               (cut-now b m (ap g.running is-c ∙ r) (ap (λ y. g.clerks y b) is-c ∙ q) (o ∙ ap (λ y. Some (y, m.age)) (sym is-c)) (ended-window d (end-own c s' g.durable d steps))))
 
   -- A session opens.
-  module _ (c s' : ℕ) (age : Age) (steps : step (Open c age s') g.durable ≡ Ok d) (γ : Ghost) (all-now : AllAgree (behind g d v p (open_session c age s' γ))) (same_owner : γ.owner ≡ g.ghost.owner) where
+  module _ (c s' : ℕ) (age : Age) (steps : step (Open c age s') g.durable ≡ Ok d) (γ : Ghost) (all-now : AllAgree (system_behind g d v p (open_session c age s' γ))) (same_owner : γ.owner ≡ g.ghost.owner) where
     abbrev hn : System
-    hn = behind g d v p (open_session c age s' γ)
+    hn = system_behind g d v p (open_session c age s' γ)
 
     pub next-is : s' ≡ (g.durable).next_session
     next-is = (open-steps c age s' g.durable d steps).1

@@ -23,7 +23,7 @@ use Rattle.ec_coherence.specs.CommitLaws.{AllAgree}
 use Rattle.ec_coherence.specs.Ends.{show_end}
 use Rattle.ec_clerk_steps.specs.Counts.{CountsAgree}
 use Rattle.ec_clerk_steps.specs.Cuts.{CutsAgree}
-use Rattle.ec_clerk_steps.specs.Frames.{RecordMakes, behind}
+use Rattle.ec_clerk_steps.specs.Frames.{RecordMakes, system_behind}
 use Rattle.ec_clerk_steps.proofs.Counted.{ended-starts}
 use Rattle.ec_clerk_steps.proofs.Keeping.{keeps-knowing}
 use Rattle.ec_clerk_steps.proofs.Recorded.{batch-keeps, end-keeps, frozen-other, ids-keep, lines-other, next-is, open-keeps, owner-is, unfrozen-new}
@@ -33,17 +33,17 @@ use Rattle.ec_base.proofs.Options.{none_some}
 module _ (g : System) (all : AllAgree g) (d : Durable) (v : Option Server) (p : List (ℕ × Msg)) where
   module _ (cuts : CutsAgree g) where
     -- where the slots and the ghosts stay
-    quiet-keeps : ((c : ℕ) → slot d c ≡ slot g.durable c) → CutsAgree (behind g d v p g.ghost)
-    quiet-keeps e c b s k ks r q o z = keeps-knowing g (behind g d v p g.ghost) c s k k ks (λ sl p os dur kn. kn) (e c) refl (λ o t. refl) refl (cuts c b s k ks r q o z)
+    quiet-keeps : ((c : ℕ) → slot d c ≡ slot g.durable c) → CutsAgree (system_behind g d v p g.ghost)
+    quiet-keeps e c b s k ks r q o z = keeps-knowing g (system_behind g d v p g.ghost) c s k k ks (λ sl p os dur kn. kn) (e c) refl (λ o t. refl) refl (cuts c b s k ks r q o z)
 
     abbrev Keeps : Ghost → Type 0
-    Keeps γ = CutsAgree (behind g d v p γ)
+    Keeps γ = CutsAgree (system_behind g d v p γ)
 
-    opens : (c : ℕ) (age : Age) (s : ℕ) → step (Open c age s) g.durable ≡ Ok d → AllAgree (behind g d v p (open_session c age s g.ghost)) → Keeps (open_session c age s g.ghost)
+    opens : (c : ℕ) (age : Age) (s : ℕ) → step (Open c age s) g.durable ≡ Ok d → AllAgree (system_behind g d v p (open_session c age s g.ghost)) → Keeps (open_session c age s g.ghost)
     opens c age s steps now = open-keeps g all cuts d v p c s age steps g.ghost now refl refl
         (λ t ks z e. none_some (sym (unfrozen-new g all cuts d v p c s age steps g.ghost now refl) ∙ ap g.ghost.frozen (sym e) ∙ z)) (λ f t a n o. refl) (λ f n. refl)
 
-    opens-over : (c : ℕ) (age : Age) (s : ℕ) (sl : Slot) → slot g.durable c ≡ Some sl → T sl.is_open → step (Open c age s) g.durable ≡ Ok d → AllAgree (behind g d v p (open_session c age s (show_end g c sl))) → Keeps (open_session c age s (show_end g c sl))
+    opens-over : (c : ℕ) (age : Age) (s : ℕ) (sl : Slot) → slot g.durable c ≡ Some sl → T sl.is_open → step (Open c age s) g.durable ≡ Ok d → AllAgree (system_behind g d v p (open_session c age s (show_end g c sl))) → Keeps (open_session c age s (show_end g c sl))
     opens-over c age s sl in_slot opened steps now = open-keeps g all cuts d v p c s age steps (show_end g c sl) now refl refl
         (λ t ks z e. none_some (sym (unfrozen-new g all cuts d v p c s age steps (show_end g c sl) now refl) ∙ sym (frozen-other g all cuts d v p c sl in_slot opened s new) ∙ ap (show_end g c sl).frozen (sym e) ∙ z))
         (λ f t a n o. frozen-other g all cuts d v p c sl in_slot opened t (differ t sl.session (λ e. absurd (n (ap (λ y. y.0) (same_some (sym o ∙ ap g.ghost.owner e ∙ owner-is g all cuts d v p c sl in_slot opened)))))))
@@ -55,11 +55,11 @@ module _ (g : System) (all : AllAgree g) (d : Durable) (v : Option Server) (p : 
         new : (s == sl.session) ≡ false
         new = above s g.durable.next_session sl.session ((all.0).sessions.slots c sl in_slot).1 (next-is g all cuts d v p c s age steps (show_end g c sl) now refl)
 
-    pub records-cuts : (r : Option Record) (γ : Ghost) → Committed g.durable r d → RecordMakes g r γ → AllAgree (behind g d v p γ) → Keeps γ
+    pub records-cuts : (r : Option Record) (γ : Ghost) → Committed g.durable r d → RecordMakes g r γ → AllAgree (system_behind g d v p γ) → Keeps γ
     records-cuts None γ same e now = subst Keeps (sym e) (quiet-keeps (λ c. ap (λ x. slot x c) same))
     records-cuts (Some (Batch c s b ops)) γ steps m now = subst Keeps (sym m.4) (batch-keeps g all cuts d v p c s b ops m.0 m.1 m.2 steps)
-    records-cuts (Some (Open c age s)) γ steps (inl m) now = subst Keeps (sym m.1) (opens c age s steps (subst (λ γ. AllAgree (behind g d v p γ)) m.1 now))
-    records-cuts (Some (Open c age s)) γ steps (inr m) now = subst Keeps (sym m.3) (opens-over c age s m.0 m.1 m.2 steps (subst (λ γ. AllAgree (behind g d v p γ)) m.3 now))
+    records-cuts (Some (Open c age s)) γ steps (inl m) now = subst Keeps (sym m.1) (opens c age s steps (subst (λ γ. AllAgree (system_behind g d v p γ)) m.1 now))
+    records-cuts (Some (Open c age s)) γ steps (inr m) now = subst Keeps (sym m.3) (opens-over c age s m.0 m.1 m.2 steps (subst (λ γ. AllAgree (system_behind g d v p γ)) m.3 now))
     records-cuts (Some (End c s)) γ steps m now = subst Keeps (sym m.4) (end-keeps g all cuts d v p c m.0 m.1 m.2 s steps)
     records-cuts (Some (Ids c s got first)) γ steps e now = subst Keeps (sym e) (ids-keep g all cuts d v p c s got first steps)
     records-cuts (Some (Epoch n)) γ steps e now = subst Keeps (sym e) (quiet-keeps (λ c. ap (λ x. slot x c) (epoch-own n g.durable d steps)))
@@ -93,5 +93,5 @@ module _ (g : System) (all : AllAgree g) (d : Durable) (v : Option Server) (p : 
   starts-same (Some (Ids c s got first)) γ e f = ap (λ y. (watch f y.shown).starts) e
   starts-same (Some (Epoch n)) γ e f = ap (λ y. (watch f y.shown).starts) e
 
-  pub records-counts : (r : Option Record) (γ : Ghost) → RecordMakes g r γ → CountsAgree g → CountsAgree (behind g d v p γ)
+  pub records-counts : (r : Option Record) (γ : Ghost) → RecordMakes g r γ → CountsAgree g → CountsAgree (system_behind g d v p γ)
   records-counts r γ m a = record { counted = λ c q. starts-same r γ m c ∙ a.counted c q; above = a.above }

@@ -26,7 +26,7 @@ use Rattle.ec_coherence.specs.Steps.{Committed, serving_in}
 use Rattle.ec_coherence.proofs.Committed.{session-there, start-there}
 use Rattle.ec_coherence.proofs.Lists.{each-fewer}
 use Rattle.ec_coherence.proofs.Tables.{same_some}
-use Rattle.ec_coherence.specs.CommitLaws.{AllAgree, Stands}
+use Rattle.ec_coherence.specs.CommitLaws.{AllAgree, StepStands}
 use Rattle.ec_coherence.specs.Makes.{Makes}
 use Rattle.ec_clerk_steps.specs.Names.{AreOnNamed, NamesAgree}
 use Rattle.ec_clerk_steps.specs.Follows.{AreGiven, GhostsFollow}
@@ -125,7 +125,7 @@ module _ (g : System) (sa : SessionsAgree g) where
 
 -- Each step of a server.
 
-module _ (g : System) (v : Server) (f : Serving) (γ : Ghost) (all : AllAgree g) (up : g.server ≡ Some v) (st : Stands g f γ) (na : NamesAgree g) where
+module _ (g : System) (v : Server) (f : Serving) (γ : Ghost) (all : AllAgree g) (up : g.server ≡ Some v) (st : StepStands g f γ) (na : NamesAgree g) where
   abbrev behind : Type 0
   behind = NamesAgree (serving_in f γ g)
 

@@ -13,7 +13,7 @@ use Rattle.ec_laws.proofs.More.{watch-step}
 use Rattle.ec_protocol.specs.declared.clerk.Clerk.{Clerk}
 use Rattle.ec_coherence.specs.System.{System}
 use Rattle.ec_coherence.specs.Events.{CutAgrees, EventsAgree}
-use Rattle.ec_coherence.specs.BatchLaws.{Agrees as FactsAgree}
+use Rattle.ec_coherence.specs.BatchLaws.{BatchFacts as FactsAgree}
 use Rattle.ec_coherence.specs.CommitLaws.{AllAgree}
 use Rattle.ec_coherence.specs.Starts.{StartsAgree}
 use Rattle.ec_coherence.specs.Watches.{WatchesAgree}

@@ -25,8 +25,8 @@ use Rattle.ec_clerk_steps.proofs.Quiet.{quiet-lines}
 use Rattle.ec_clerk_steps.proofs.Still.{tries-answer}
 use Rattle.ec_coherence.specs.Answers.{Gives, answered_ghost, fresh_of, op_given}
 use Rattle.ec_clerk_steps.specs.Answering.{Suits, answered_clerk}
-use Rattle.ec_clerk_steps.specs.AnswerLaws.{AllTriesStand, AreLined, GoesOn, IsTried, OneCarries, TriesCarry, TriesStand, answered_so}
-use Rattle.ec_clerk_steps.specs.Trying.{Answers, IsTrying}
+use Rattle.ec_clerk_steps.specs.AnswerLaws.{AllTriesStand, AreLined, GoesOnWith, IsTried, OneCarries, TriesCarry, TriesStand, answered_so}
+use Rattle.ec_clerk_steps.specs.Trying.{AnswersWith, IsTrying}
 use Rattle.ec_clerk_steps.proofs.Given.{Comes, SinglesStand, all-tries-stand, op-same, spent-verdict, tries-stand}
 use Rattle.ec_clerk_steps.proofs.Later as later
 use Rattle.ec_clerk_steps.proofs.Living as living
@@ -93,7 +93,7 @@ module _ (g : System) (c : ℕ) (d : Doing) (γ : Ghost) (before rest : List Wai
     l = single.l g c b d γ t before rest w split
 
     -- the others have their lines
-    comes : (δ : Ghost) → δ.shown ≡ γ.shown ++ Answered l c w.call a op ∷ [] → Answers g c b d γ l w.call a op δ → IsTrying g c b (record d { clerk = now; outs = d.outs ++ out.Answer w.no a op ∷ [] }) δ → Comes g c b d γ l w a op now
+    comes : (δ : Ghost) → δ.shown ≡ γ.shown ++ Answered l c w.call a op ∷ [] → AnswersWith g c b d γ l w.call a op δ → IsTrying g c b (record d { clerk = now; outs = d.outs ++ out.Answer w.no a op ∷ [] }) δ → Comes g c b d γ l w a op now
     comes δ shown how t2 = (δ, how, t2, single.lines-on g c b d γ t before rest w split a op gives suit lines δ shown t2)
 
     -- an answer at the end of the history
@@ -135,7 +135,7 @@ all-tries-on = all-tries-stand tries-on
 
 -- With a further fact.
 
-module _ (g : System) (c b : ℕ) (Q : Doing → Ghost → Type 0) (on : GoesOn g c b Q) where
+module _ (g : System) (c b : ℕ) (Q : Doing → Ghost → Type 0) (on : GoesOnWith g c b Q) where
   -- the facts of the step as they stand
   all-in : (d : Doing) (γ : Ghost) → IsTrying g c b d γ → AllAgree (doing_in c b d γ g)
   all-in d γ t = (((t.stands).0).invariant, (t.stands).1, (t.stands).2, (t.stands).3)

@@ -23,7 +23,7 @@ use Rattle.ec_coherence.specs.System.{System, base_of, clerk_of, if_in}
 use Rattle.ec_coherence.specs.Sessions as sessions
 use Rattle.ec_coherence.specs.Sessions.{HasNone, SessionsAgree}
 use Rattle.ec_coherence.specs.Log.{next_of}
-use Rattle.ec_coherence.specs.BatchLaws.{Agrees}
+use Rattle.ec_coherence.specs.BatchLaws.{BatchFacts}
 use Rattle.ec_coherence.specs.Events.{CutAgrees, EventsAgree, IsUncut, shown_boot}
 use Rattle.ec_coherence.specs.Invariant.{Invariant}
 use Rattle.ec_coherence.specs.Steps.{runs}
@@ -184,7 +184,7 @@ module _ (g : System) (all : AllAgree g) (counts : CountsAgree g) (c : ℕ) (sma
       by false e = refl
       by true e = let two = and_parts (d == c) (a == b) e in sym (ap next_of (ap (λ z. g.clerks z a) (equal d c two.0) ∙ ap (g.clerks c) (equal a b two.1) ∙ none-there))
 
-  agrees : Agrees h
+  agrees : BatchFacts h
   agrees = record {
     sessions = sessions-stay;
     tokens = still.tokens-stay g all h.clerks same-in same-next h.running h.boots calls hello (tt, tt) (tt, tt);
@@ -258,7 +258,7 @@ module _ (g : System) (all : AllAgree g) (counts : CountsAgree g) (c : ℕ) (sma
           (λ p o. absurd (not-owned s m.age o (ap (λ y. y.age.boot) (sym (own-is m p))))) (λ d x n q p o. cut d x s m ks (a.cuts d x s m ks q (of-other d x m n p) o z)) d x q p o;
     }
 
-    lined : Agrees hn
+    lined : BatchFacts hn
     lined = lines-agree h now g.ghost.history g.ghost.fresh agrees
 
     pub invariant-now : Invariant hn

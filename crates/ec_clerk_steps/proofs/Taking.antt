@@ -30,7 +30,7 @@ use Rattle.ec_coherence.proofs.Lists.{each-more}
 use Rattle.ec_coherence.proofs.Tables.{same_some}
 use Rattle.ec_coherence.proofs.TakeGrant.{by-session, grant-agrees}
 use Rattle.ec_coherence.proofs.TakeRecall.{recall-agrees}
-use Rattle.ec_coherence.specs.StandLaws.{GoesOn, IsUnderWay}
+use Rattle.ec_coherence.specs.StandLaws.{SessionGoesOn, IsUnderWay}
 use Rattle.ec_coherence.specs.CommitLaws.{AllAgree}
 use Rattle.ec_clerk_steps.specs.DoingLaws.{IsInHand}
 use Rattle.ec_clerk_steps.proofs.CacheLogs as kept
@@ -56,7 +56,7 @@ module _ (g : System) (c b s : ℕ) (d : Doing) (γ : Ghost) (h : IsInHand g c b
   all : AllAgree here
   all = moving.all g c b s d γ u
 
-  goes-on : (k : Clerk) → k.id ≡ d.clerk.id → k.age ≡ d.clerk.age → k.session ≡ d.clerk.session → k.owed ≡ d.clerk.owed → k.log.next ≡ d.clerk.log.next → GoesOn d.clerk k
+  goes-on : (k : Clerk) → k.id ≡ d.clerk.id → k.age ≡ d.clerk.age → k.session ≡ d.clerk.session → k.owed ≡ d.clerk.owed → k.log.next ≡ d.clerk.log.next → SessionGoesOn d.clerk k
   goes-on k i a t o n = record { id = i; age = a; session = t; owed = o; next = n }
 
   -- the facts on tokens of a message, as the step sees it

@@ -24,7 +24,7 @@ use Rattle.ec_coherence.proofs.ClerkIn.{start-same}
 use Rattle.ec_coherence.proofs.Tables.{at-without, same_some}
 use Rattle.ec_coherence.specs.Comes.{begun_at}
 use Rattle.ec_coherence.specs.StandLaws.{crashed}
-use Rattle.ec_clerk_steps.specs.Calls.{AreApart, Began, CallsAgree, IsBefore, IsOpenCall, LosesBelow, StartCalls, before_last, has_number, is_shown, told_to}
+use Rattle.ec_clerk_steps.specs.Calls.{HaveDistinctNumbers as AreApart, Began, CallsAgree, IsBefore, IsOpenCall, LosesBelow, StartCalls, before_last, has_number, is_shown, told_to}
 use Rattle.ec_clerk_steps.specs.Waits.{AreAtRest, HasLine, IsAtRest, does_wait}
 use Rattle.ec_clerk_steps.specs.CallLaws.{with_change}
 use Rattle.ec_clerk_steps.proofs.CallFrames.{lines-append}

@@ -24,7 +24,7 @@ use Rattle.ec_coherence.specs.CommitLaws.{AllAgree}
 use Rattle.ec_coherence.specs.StandLaws.{ClerkStands, IsUnderWay}
 use Rattle.ec_coherence.proofs.Doings.{begins-stand}
 use Rattle.ec_clerk_steps.specs.Cuts.{CutKnows, CutsAgree}
-use Rattle.ec_clerk_steps.specs.JoinLaws.{Goes, IsBeside, IsGoing, IsOfSession, SameCalls, tell_loss}
+use Rattle.ec_clerk_steps.specs.JoinLaws.{GoesThrough, IsBeside, IsGoing, IsOfSession, SameCalls, tell_loss}
 use Rattle.ec_clerk_steps.proofs.Cases as cases
 use Rattle.ec_clerk_steps.proofs.Hellos.{hello-cuts, hello-stands, old-boot-cuts, old-boot-stands}
 use Rattle.ec_clerk_steps.proofs.Joined.{joins-cuts, joins-go}
@@ -122,7 +122,7 @@ module _ (g : System) (all : AllAgree g) (cuts : CutsAgree g) (c b : ℕ) (k : C
         let u = joins-go g c b d g.ghost st without outside age s e (of-sessions (Opened age s e) p) (of-tokens (Opened age s e) p) own in
         record { stands = u.stands; cuts = joins-cuts g c b d g.ghost st without outside age s e (of-sessions (Opened age s e) p) (of-tokens (Opened age s e) p) own cuts-here; place = inr (s, u); calls = record { waiting = refl; calls = refl; next = refl }; same_calls = refl }
 
-    pub takes-outside : (m : Msg) → Contains g.pool (c, m) → Goes g c b k m
+    pub takes-outside : (m : Msg) → Contains g.pool (c, m) → GoesThrough g c b k m
     takes-outside = cases.outside c g.pool k g.ghost (IsGoing g c b k) begins greeted shows-old without none.asking opens
 
   -- In one.
@@ -133,8 +133,8 @@ module _ (g : System) (all : AllAgree g) (cuts : CutsAgree g) (c b : ℕ) (k : C
       | inr q ↦ inr (record { stands = q.0; cuts = q.1; place = inl q.2; calls = ended-calls (record { low = low; mask = mask }) d; same_calls = ended-out (record { low = low; mask = mask }) })
     ]
 
-    pub takes-beside : (m : Msg) → Contains g.pool (c, m) → IsBeside s k m → Goes g c b k m
+    pub takes-beside : (m : Msg) → Contains g.pool (c, m) → IsBeside s k m → GoesThrough g c b k m
     takes-beside = cases.inside c g.pool k g.ghost (IsGoing g c b k) begins greeted shows-old s within own-end
 
-    pub takes-others : (m : Msg) → Contains g.pool (c, m) → (IsOfSession s m → ⊥) → Goes g c b k m
+    pub takes-others : (m : Msg) → Contains g.pool (c, m) → (IsOfSession s m → ⊥) → GoesThrough g c b k m
     takes-others m p n = takes-beside m p (cases.is-beside s k m n)

@@ -18,7 +18,7 @@ use Rattle.ec_coherence.proofs.Lists.{each-fewer}
 use Rattle.ec_coherence.proofs.Tables.{by-session, same_some}
 use Rattle.ec_coherence.specs.Ends.{show_end}
 use Rattle.ec_clerk_steps.specs.Zeros.{HasNoZero, LeaveOut, ZerosAgree}
-use Rattle.ec_clerk_steps.specs.Frames.{RecordMakes, behind}
+use Rattle.ec_clerk_steps.specs.Frames.{RecordMakes, system_behind}
 use Rattle.ec_clerk_steps.proofs.Steps.{batch-field, end-own, epoch-own, ids-are, open-is}
 use Rattle.ec_clerk_steps.specs.ZeroLaws.{SameZeros}
 use Rattle.ec_base.proofs.Numbers.{same-self as same}
@@ -29,7 +29,7 @@ Out o = T (not (has_operand 0 o.update))
 
 module _ (g : System) (z : ZerosAgree g) (d : Durable) (v : Option Server) (p : List (ℕ × Msg)) where
   abbrev Keeps : Ghost → Type 0
-  Keeps γ = ZerosAgree (behind g d v p γ)
+  Keeps γ = ZerosAgree (system_behind g d v p γ)
 
   -- where the next id is no less, and the ghosts stay
   quiet : suc zero ≤ d.next_id → Keeps g.ghost

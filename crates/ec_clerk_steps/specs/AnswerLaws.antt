@@ -23,7 +23,7 @@ use Rattle.ec_clerk_steps.specs.Waits.{HasLine}
 use Rattle.ec_coherence.specs.Answers.{Gives, based, fresh_of}
 use Rattle.ec_coherence.specs.Comes.{after_answer, entry_next}
 use Rattle.ec_clerk_steps.specs.Answering.{Suits, answered_clerk, answering}
-use Rattle.ec_clerk_steps.specs.Trying.{Answers, IsTrying}
+use Rattle.ec_clerk_steps.specs.Trying.{AnswersWith, IsTrying}
 use Rattle.ec_clerk_steps.specs.Zeros.{ZerosAgree}
 
 -- what the entry of the answer covers is durable
@@ -59,7 +59,7 @@ OutsideAnswersStand = (g : System) → Invariant g → FirstsAgree g.ghost → S
 abbrev pub IsTried : System → ℕ → ℕ → Doing → Ghost → List Waiting → Waiting → List Waiting → Tried → Type 0
 IsTried g c b d γ before w rest (Waits e) = T (is_some e.spent) ⊎ (IsTrying g c b e γ × (e.clerk.waiting ≡ before ++ w ∷ rest))
 IsTried g c b d γ before w rest (answers e) =
-    (l : ℕ) × (a : Answer) × (op : Option ℕ) × (δ : Ghost) × (call_of c w.no (doing_in c b d γ g).calls ≡ Some (l, w.call)) × Answers g c b d γ l w.call a op δ × IsTrying g c b (with_clerk (λ k. record k { waiting = before ++ rest }) e) δ
+    (l : ℕ) × (a : Answer) × (op : Option ℕ) × (δ : Ghost) × (call_of c w.no (doing_in c b d γ g).calls ≡ Some (l, w.call)) × AnswersWith g c b d γ l w.call a op δ × IsTrying g c b (with_clerk (λ k. record k { waiting = before ++ rest }) e) δ
     × Each (HasLine (doing_in c b (with_clerk (λ k. record k { waiting = before ++ rest }) e) δ g) c) (before ++ rest)
 
 abbrev pub TriesStand : Type 0
@@ -72,9 +72,9 @@ AllTriesStand = (g : System) (c b : ℕ) (d : Doing) (γ : Ghost) → IsTrying g
 -- With a further fact.
 
 -- It goes on with the step, where nothing is shown, and behind each answer.
-pub record GoesOn (g : System) (c b : ℕ) (Q : Doing → Ghost → Type 0) : Type 0 where
+pub record GoesOnWith (g : System) (c b : ℕ) (Q : Doing → Ghost → Type 0) : Type 0 where
   pub stays : (d e : Doing) (γ : Ghost) → Q d γ → Q e γ
-  pub answers : (d e : Doing) (γ δ : Ghost) (l : ℕ) (cl : Call) (a : Answer) (op : Option ℕ) → AllAgree (doing_in c b d γ g) → AllAgree (doing_in c b e δ g) → Answers g c b d γ l cl a op δ → Q d γ → Q e δ
+  pub answers : (d e : Doing) (γ δ : Ghost) (l : ℕ) (cl : Call) (a : Answer) (op : Option ℕ) → AllAgree (doing_in c b d γ g) → AllAgree (doing_in c b e δ g) → AnswersWith g c b d γ l cl a op δ → Q d γ → Q e δ
 
 abbrev pub AreLined : System → ℕ → ℕ → Doing → Ghost → Type 0
 AreLined g c b d γ = Each (HasLine (doing_in c b d γ g) c) d.clerk.waiting
@@ -85,12 +85,12 @@ answered_so ws w a op d = let left : Clerk = record (d.clerk) { waiting = ws } i
 
 -- one waiting call is answered, where all have their lines
 abbrev pub OneCarries : System → ℕ → ℕ → (Doing → Ghost → Type 0) → Type 0
-OneCarries g c b Q = GoesOn g c b Q → (d : Doing) (γ : Ghost) → IsTrying g c b d γ → AreLined g c b d γ → Q d γ
+OneCarries g c b Q = GoesOnWith g c b Q → (d : Doing) (γ : Ghost) → IsTrying g c b d γ → AreLined g c b d γ → Q d γ
     → (before rest : List Waiting) (w : Waiting) → d.clerk.waiting ≡ before ++ w ∷ rest → (a : Answer) (op : Option ℕ)
     → let left : Clerk = record (d.clerk) { waiting = before ++ rest } in Gives g.durable.max_objects left (verdict w.call left) a op (answered_clerk (verdict w.call left) left).owed → Suits (verdict w.call left) left → Passes d.clerk w
     → (δ : Ghost) × IsTrying g c b (answered_so (before ++ rest) w a op d) δ × AreLined g c b (answered_so (before ++ rest) w a op d) δ × Q (answered_so (before ++ rest) w a op d) δ
 
 -- all of them are tried
 abbrev pub TriesCarry : System → ℕ → ℕ → (Doing → Ghost → Type 0) → Type 0
-TriesCarry g c b Q = GoesOn g c b Q → (d : Doing) (γ : Ghost) → IsTrying g c b d γ → Q d γ
+TriesCarry g c b Q = GoesOnWith g c b Q → (d : Doing) (γ : Ghost) → IsTrying g c b d γ → Q d γ
     → T (is_some (try_all d).spent) ⊎ ((δ : Ghost) × IsTrying g c b (try_all d) δ × Q (try_all d) δ × (AreLined g c b d γ → AreLined g c b (try_all d) δ))

@@ -35,7 +35,7 @@ use Rattle.ec_coherence.specs.System.{System, Ghost, at_session, is_of, with_sta
 use Rattle.ec_coherence.specs.Events.{CutAgrees, EventsAgree, shown_boot}
 use Rattle.ec_coherence.specs.ChangeLaws.{Calls}
 use Rattle.ec_coherence.specs.Steps.{call_of, calls_after, doing_in, less_call, serving_in}
-use Rattle.ec_coherence.specs.CommitLaws.{AllAgree, Stands}
+use Rattle.ec_coherence.specs.CommitLaws.{AllAgree, StepStands}
 use Rattle.ec_coherence.specs.StandLaws.{crashed, lined}
 use Rattle.ec_clerk_steps.specs.Calls.{CallsAgree, is_shown}
 use Rattle.ec_clerk_steps.specs.Waits.{AreAtRest, AreInTurn, HasLine, IsAtRest, NoneReady, does_wait}
@@ -65,7 +65,7 @@ LinesKeepCalls = (g : System) (d : Durable) (v : Option Server) (r : Option Reco
 
 -- behind any step of a server
 abbrev pub ServersKeepCalls : Type 0
-ServersKeepCalls = (g : System) → AllAgree g → (γ : Ghost) (t : Serving) → Stands g t γ → (CallsAgree g → CallsAgree (serving_in t γ g)) × (AreAtRest g → AreAtRest (serving_in t γ g))
+ServersKeepCalls = (g : System) → AllAgree g → (γ : Ghost) (t : Serving) → StepStands g t γ → (CallsAgree g → CallsAgree (serving_in t γ g)) × (AreAtRest g → AreAtRest (serving_in t γ g))
 
 -- behind a crash, with which its calls go
 abbrev pub CrashesKeepCalls : Type 0

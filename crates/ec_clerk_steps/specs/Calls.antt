@@ -18,9 +18,9 @@ use Rattle.ec_coherence.specs.Comes.{begun_at}
 -- Numbers and lines.
 
 -- no two of these have one number
-abbrev pub AreApart : List Waiting → Type 0
-AreApart [] = ⊤
-AreApart (w ∷ ws) = Each (λ v. (v.no == w.no) ≡ false) ws × AreApart ws
+abbrev pub HaveDistinctNumbers : List Waiting → Type 0
+HaveDistinctNumbers [] = ⊤
+HaveDistinctNumbers (w ∷ ws) = Each (λ v. (v.no == w.no) ≡ false) ws × HaveDistinctNumbers ws
 
 -- one of these has this number
 abbrev pub has_number : ℕ → List Waiting → Bool
@@ -67,7 +67,7 @@ pub record StartCalls (g : System) (c b : ℕ) (k : Clerk) : Type 0 where
   -- each waiting call has its line and its text
   pub lined : Each (λ w. (l : ℕ) × (call_of c w.no g.calls ≡ Some (l, w.call)) × Began g c b k w l) k.waiting
   -- their numbers differ, and are at most that of the last call
-  pub apart : AreApart k.waiting
+  pub apart : HaveDistinctNumbers k.waiting
   pub numbers : Each (λ w. w.no ≤ k.calls) k.waiting
   -- what isn't known durable was issued in this session, and what it was told to be lost before it
   pub own : T (is_from k.log.first k.log.undurable)

@@ -31,29 +31,29 @@ abbrev pub BeginsInHand : Type 0
 BeginsInHand = (g : System) → AllAgree g → OrderlyAgree g → NamesAgree g → (c b s : ℕ) (k : Clerk) → g.running c ≡ Some b → g.clerks c b ≡ Some k → k.session ≡ Some s → IsInHand g c b s (doing k) g.ghost
 
 -- it stays so behind a function, with the same ghosts: nothing is shown, and no operation is issued
-abbrev pub Keeps : (Doing → Doing) → Type 0
-Keeps f = (g : System) (c b s : ℕ) (d : Doing) (γ : Ghost) → IsInHand g c b s d γ → IsInHand g c b s (f d) γ
+abbrev pub KeepsInHand : (Doing → Doing) → Type 0
+KeepsInHand f = (g : System) (c b s : ℕ) (d : Doing) (γ : Ghost) → IsInHand g c b s d γ → IsInHand g c b s (f d) γ
 
 -- recalls are answered, pushed closures are asked for, tokens beyond the capacity go back
 abbrev pub RecallsAnswer : Type 0
-RecallsAnswer = Keeps answer_recalls
+RecallsAnswer = KeepsInHand answer_recalls
 
 abbrev pub PushesAsk : Type 0
-PushesAsk = Keeps ask_pushes × ((n : ℕ) → Keeps (keep_push n))
+PushesAsk = KeepsInHand ask_pushes × ((n : ℕ) → KeepsInHand (keep_push n))
 
 abbrev pub TokensGoBack : Type 0
-TokensGoBack = Keeps evict
+TokensGoBack = KeepsInHand evict
 
 -- a closure is asked for: each Flush is sound
 abbrev pub ClosuresAreAsked : Type 0
-ClosuresAreAsked = (a : Asked) → Keeps (ask_for a)
+ClosuresAreAsked = (a : Asked) → KeepsInHand (ask_for a)
 
 -- what is held is claimed, and what is outstanding goes out again
 abbrev pub ClaimsStand : Type 0
-ClaimsStand = Keeps claim
+ClaimsStand = KeepsInHand claim
 
 abbrev pub AllIsSent : Type 0
-AllIsSent = Keeps send_outstanding
+AllIsSent = KeepsInHand send_outstanding
 
 -- what a call's verdict needs is of a mode that can be held, and named; where it needs ids, there is none
 abbrev pub NeedsAreNamed : Type 0
@@ -71,8 +71,8 @@ abbrev pub RoomsKeep : Type 0
 RoomsKeep = (g : System) (c b s : ℕ) (d : Doing) (γ : Ghost) → IsInHand g c b s d γ → d.clerk.ids ≡ [] → IsInHand g c b s (ask_room d) γ
 
 -- Messages: one is taken of which the facts on sessions and tokens hold, of whatever session and epoch.
-abbrev pub Takes : (Msg → Type 0) → Type 0
-Takes P = (g : System) (c b s : ℕ) (d : Doing) (γ : Ghost) → IsInHand g c b s d γ → (m : Msg) → P m → sessions.Fits (doing_in c b d γ g) c m → T (is_sound m) → Fits (view (doing_in c b d γ g)) m → IsInHand g c b s (taken m d) γ
+abbrev pub TakesMessage : (Msg → Type 0) → Type 0
+TakesMessage P = (g : System) (c b s : ℕ) (d : Doing) (γ : Ghost) → IsInHand g c b s d γ → (m : Msg) → P m → sessions.Fits (doing_in c b d γ g) c m → T (is_sound m) → Fits (view (doing_in c b d γ g)) m → IsInHand g c b s (taken m d) γ
 
 abbrev pub IsGrant : Msg → Type 0
 IsGrant (Grant s e x n h i) = ⊤

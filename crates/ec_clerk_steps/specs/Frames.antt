@@ -51,13 +51,13 @@ RecordMakes g (Some (End c s)) γ = (sl : Slot) × (slot g.durable c ≡ Some sl
 RecordMakes g (Some (Ids c s got first)) γ = γ ≡ give_ids s first g.ghost
 RecordMakes g (Some (Epoch e)) γ = γ ≡ g.ghost
 
-abbrev pub behind : System → Durable → Option Server → List (ℕ × Msg) → Ghost → System
-behind g d v p γ = record g { durable = d; server = v; pool = p; ghost = γ }
+abbrev pub system_behind : System → Durable → Option Server → List (ℕ × Msg) → Ghost → System
+system_behind g d v p γ = record g { durable = d; server = v; pool = p; ghost = γ }
 
 -- both facts stand behind a record, where all facts do
 abbrev pub RecordsKeep : Type 0
-RecordsKeep = (g : System) → AllAgree g → (r : Option Record) (d : Durable) (v : Option Server) (p : List (ℕ × Msg)) (γ : Ghost) → Committed g.durable r d → RecordMakes g r γ → AllAgree (behind g d v p γ)
-    → (CutsAgree g → CutsAgree (behind g d v p γ)) × (CountsAgree g → CountsAgree (behind g d v p γ))
+RecordsKeep = (g : System) → AllAgree g → (r : Option Record) (d : Durable) (v : Option Server) (p : List (ℕ × Msg)) (γ : Ghost) → Committed g.durable r d → RecordMakes g r γ → AllAgree (system_behind g d v p γ)
+    → (CutsAgree g → CutsAgree (system_behind g d v p γ)) × (CountsAgree g → CountsAgree (system_behind g d v p γ))
 
 -- What is the same for these facts: the slots, the starts, who opened and saw what, and what the lines have of each clerk.
 pub record SameCuts (g h : System) : Type 0 where

@@ -16,7 +16,7 @@ use Rattle.ec_coherence.specs.Clerks.{take_session}
 use Rattle.ec_coherence.specs.Tokens.{Fits, view}
 use Rattle.ec_coherence.specs.Steps.{doing_in, serving_in}
 use Rattle.ec_coherence.specs.ChangeLaws.{Calls}
-use Rattle.ec_coherence.specs.CommitLaws.{AllAgree, Stands}
+use Rattle.ec_coherence.specs.CommitLaws.{AllAgree, StepStands}
 use Rattle.ec_coherence.specs.Makes.{Makes}
 use Rattle.ec_clerk_steps.specs.DoingLaws.{IsGrant, IsIds, IsInHand, IsKept, IsRecall, IsRestarted}
 use Rattle.ec_clerk_steps.specs.Names.{NamesAgree}
@@ -36,7 +36,7 @@ MovesFollow = (g : System) → AllAgree g → NamesAgree g → (γ : Ghost) → 
 
 -- behind each step of a running server
 abbrev pub ServersKeepFrees : Type 0
-ServersKeepFrees = (g : System) (v : Server) (f : Serving) (γ : Ghost) → AllAgree g → g.server ≡ Some v → Stands g f γ → Makes g v f.rec γ → NamesAgree g → FreesAgree g → FreesAgree (serving_in f γ g)
+ServersKeepFrees = (g : System) (v : Server) (f : Serving) (γ : Ghost) → AllAgree g → g.server ≡ Some v → StepStands g f γ → Makes g v f.rec γ → NamesAgree g → FreesAgree g → FreesAgree (serving_in f γ g)
 
 -- behind whatever leaves what these facts read
 abbrev pub FreesAreRead : Type 0

@@ -23,7 +23,7 @@ use Rattle.ec_coherence.specs.ChangeLaws.{Calls, with_clerk}
 use Rattle.ec_coherence.specs.CommitLaws.{AllAgree}
 use Rattle.ec_coherence.specs.Starts.{StartsAgree}
 use Rattle.ec_coherence.specs.Watches.{FirstsAgree, WatchAgrees}
-use Rattle.ec_coherence.specs.StandLaws.{AreSent, ClerkStands, GoesOn, IsUnderWay, lined}
+use Rattle.ec_coherence.specs.StandLaws.{AreSent, ClerkStands, SessionGoesOn, IsUnderWay, lined}
 use Rattle.ec_clerk_steps.specs.Counts.{CountsAgree}
 use Rattle.ec_clerk_steps.specs.Cuts.{CutsAgree}
 
@@ -71,7 +71,7 @@ HellosStand = (g : System) (c b : ℕ) (d : Doing) (γ : Ghost) → ClerkStands 
 
 -- A clerk without a session changes in what no fact reads of it (waiting calls, pushes, what it wanted and asked), with messages of which the facts hold.
 abbrev pub OutsideStands : Type 0
-OutsideStands = (g : System) → AllAgree g → (c b : ℕ) (k now : Clerk) → g.clerks c b ≡ Some k → k.session ≡ None → GoesOn k now → side now ≡ side k → now.ids ≡ k.ids → now.log ≡ k.log → now.asking ≡ k.asking
+OutsideStands = (g : System) → AllAgree g → (c b : ℕ) (k now : Clerk) → g.clerks c b ≡ Some k → k.session ≡ None → SessionGoesOn k now → side now ≡ side k → now.ids ≡ k.ids → now.log ≡ k.log → now.asking ≡ k.asking
     → (calls : Calls) (ms : List (ℕ × Msg)) → AreSent g ms → Each (λ m. Fits (view g) m.1) ms → Each (λ m. log.Fits g m.1) ms → AllAgree (with_clerk g c b now calls ms) × (CutsAgree g → CutsAgree (with_clerk g c b now calls ms))
 
 -- Sessions.
@@ -114,13 +114,13 @@ pub record IsGoing (g : System) (c b : ℕ) (k : Clerk) (d : Doing) (γ : Ghost)
   pub same_calls : (doing_in c b d γ g).calls ≡ g.calls
 
 -- what such a message makes of the ghosts
-abbrev pub joined : ℕ → Msg → Doing → Ghost → Ghost
-joined c (Opened age s e) d γ = elim (not (has_session d.clerk) && same_age age d.clerk.age) [ true ↦ take_session s γ | false ↦ γ ]
-joined c (Ended s low mask) d γ = elim (is_session s d.clerk.session) [ true ↦ tell_loss c (keys (lost (record { low = low; mask = mask }) d.clerk.log)) γ | false ↦ γ ]
-joined c _ d γ = γ
+abbrev pub ghosts_joined : ℕ → Msg → Doing → Ghost → Ghost
+ghosts_joined c (Opened age s e) d γ = elim (not (has_session d.clerk) && same_age age d.clerk.age) [ true ↦ take_session s γ | false ↦ γ ]
+ghosts_joined c (Ended s low mask) d γ = elim (is_session s d.clerk.session) [ true ↦ tell_loss c (keys (lost (record { low = low; mask = mask }) d.clerk.log)) γ | false ↦ γ ]
+ghosts_joined c _ d γ = γ
 
-abbrev pub Goes : System → ℕ → ℕ → Clerk → Msg → Type 0
-Goes g c b k m = T (is_some (taken m (doing k)).spent) ⊎ IsGoing g c b k (taken m (doing k)) (joined c m (doing k) g.ghost)
+abbrev pub GoesThrough : System → ℕ → ℕ → Clerk → Msg → Type 0
+GoesThrough g c b k m = T (is_some (taken m (doing k)).spent) ⊎ IsGoing g c b k (taken m (doing k)) (ghosts_joined c m (doing k) g.ghost)
 
 -- so a step begins
 abbrev pub GoesAtFirst : Type 0
@@ -128,7 +128,7 @@ GoesAtFirst = (g : System) → AllAgree g → CutsAgree g → (c b : ℕ) (k : C
 
 -- a clerk without a session takes any message that was sent
 abbrev pub TakesOutside : Type 0
-TakesOutside = (g : System) → AllAgree g → CutsAgree g → (c b : ℕ) (k : Clerk) → g.running c ≡ Some b → g.clerks c b ≡ Some k → k.session ≡ None → (m : Msg) → Contains g.pool (c, m) → Goes g c b k m
+TakesOutside = (g : System) → AllAgree g → CutsAgree g → (c b : ℕ) (k : Clerk) → g.running c ≡ Some b → g.clerks c b ≡ Some k → k.session ≡ None → (m : Msg) → Contains g.pool (c, m) → GoesThrough g c b k m
 
 -- a message that changes a clerk in the session s
 abbrev pub IsOfSession : ℕ → Msg → Type 0
@@ -152,4 +152,4 @@ IsBeside s k _ = ⊤
 
 -- a clerk in a session takes any message but one of those
 abbrev pub TakesOthers : Type 0
-TakesOthers = (g : System) → AllAgree g → CutsAgree g → (c b s : ℕ) (k : Clerk) → g.running c ≡ Some b → g.clerks c b ≡ Some k → k.session ≡ Some s → (m : Msg) → Contains g.pool (c, m) → (IsOfSession s m → ⊥) → Goes g c b k m
+TakesOthers = (g : System) → AllAgree g → CutsAgree g → (c b s : ℕ) (k : Clerk) → g.running c ≡ Some b → g.clerks c b ≡ Some k → k.session ≡ Some s → (m : Msg) → Contains g.pool (c, m) → (IsOfSession s m → ⊥) → GoesThrough g c b k m

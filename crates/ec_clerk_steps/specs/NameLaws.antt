@@ -24,7 +24,7 @@ use Rattle.ec_coherence.specs.Tokens.{Names, TokensAgree, view}
 use Rattle.ec_coherence.specs.Images.{ImagesAgree}
 use Rattle.ec_coherence.specs.Steps.{doing_in, serving_in}
 use Rattle.ec_coherence.specs.ChangeLaws.{Calls}
-use Rattle.ec_coherence.specs.CommitLaws.{AllAgree, Stands}
+use Rattle.ec_coherence.specs.CommitLaws.{AllAgree, StepStands}
 use Rattle.ec_coherence.specs.Answers.{op_given}
 use Rattle.ec_coherence.specs.Comes.{after_answer}
 use Rattle.ec_coherence.specs.Makes.{Makes}
@@ -49,7 +49,7 @@ StatesKeepNames = (g : System) → SessionsAgree g → NamesAgree g → (d : Dur
 
 -- behind each step of a running server
 abbrev pub ServersKeepNames : Type 0
-ServersKeepNames = (g : System) (v : Server) (f : Serving) (γ : Ghost) → AllAgree g → g.server ≡ Some v → Stands g f γ → Makes g v f.rec γ → NamesAgree g → NamesAgree (serving_in f γ g)
+ServersKeepNames = (g : System) (v : Server) (f : Serving) (γ : Ghost) → AllAgree g → g.server ≡ Some v → StepStands g f γ → Makes g v f.rec γ → NamesAgree g → NamesAgree (serving_in f γ g)
 
 -- it leaves the clerks in order
 abbrev pub ServersKeepOrder : Type 0

@@ -43,8 +43,8 @@ late_ghost s c ks l cl a op x os γ =
     }
 
 -- The ghosts behind an answer of the clerk in d: of one that is cut off its session and what it saw.
-abbrev pub Answers : System → ℕ → ℕ → Doing → Ghost → ℕ → Call → Answer → Option ℕ → Ghost → Type 0
-Answers g c b d γ l cl a op δ =
+abbrev pub AnswersWith : System → ℕ → ℕ → Doing → Ghost → ℕ → Call → Answer → Option ℕ → Ghost → Type 0
+AnswersWith g c b d γ l cl a op δ =
     let here = doing_in c b d γ g in
     (δ ≡ answered_ghost c l cl a op (fresh_of d.clerk) (ops_next here c b cl d.clerk) γ)
     ⊎ ((s : ℕ) × (ks : List Op) × (γ.owner s ≡ Some (c, d.clerk.age)) × (γ.frozen s ≡ Some ks) × (δ ≡ late_ghost s c ks l cl a op (fresh_of d.clerk) (ops_next here c b cl d.clerk) γ))

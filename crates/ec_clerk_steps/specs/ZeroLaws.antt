@@ -21,7 +21,7 @@ use Rattle.ec_coherence.specs.System.{System, Ghost, with_start}
 use Rattle.ec_coherence.specs.Tokens.{Fits, view}
 use Rattle.ec_coherence.specs.Steps.{Committed, doing_in, serving_in}
 use Rattle.ec_coherence.specs.StandLaws.{IsUnderWay}
-use Rattle.ec_clerk_steps.specs.Frames.{RecordMakes, behind}
+use Rattle.ec_clerk_steps.specs.Frames.{RecordMakes, system_behind}
 use Rattle.ec_clerk_steps.specs.Frees.{FullsAgree}
 use Rattle.ec_clerk_steps.specs.Zeros.{HasNoZero, ZerosAgree}
 
@@ -29,7 +29,7 @@ use Rattle.ec_clerk_steps.specs.Zeros.{HasNoZero, ZerosAgree}
 
 -- behind a record
 abbrev pub RecordsKeepZeros : Type 0
-RecordsKeepZeros = (g : System) → ZerosAgree g → (r : Option Record) (d : Durable) (v : Option Server) (p : List (ℕ × Msg)) (γ : Ghost) → Committed g.durable r d → RecordMakes g r γ → ZerosAgree (behind g d v p γ)
+RecordsKeepZeros = (g : System) → ZerosAgree g → (r : Option Record) (d : Durable) (v : Option Server) (p : List (ℕ × Msg)) (γ : Ghost) → Committed g.durable r d → RecordMakes g r γ → ZerosAgree (system_behind g d v p γ)
 
 -- what is the same: the volume at first, what is kept and was seen, and which ids were given
 pub record SameZeros (g h : System) : Type 0 where

@@ -1,6 +1,6 @@
 // The functions of a clerk's step that answer no call, with all facts, and two further facts: of each clerk by itself, and of the objects that calls
 // can come upon.
-ghost use Rattle.ec_clerk_steps.specs.DoingLaws.{AllIsSent, BeginsInHand, CallsStand, ClaimsStand, ClosuresAreAsked, IdsAreOut, IsGrant, IsIds, IsKept, IsRecall, IsRestarted, NeedsAreNamed, OpeningIsInOrder, OrderAgrees, OrderStays, PushesAsk, RecallsAnswer, RoomsKeep, SpentStays, Takes, TokensGoBack, WantsKeep};
+ghost use Rattle.ec_clerk_steps.specs.DoingLaws.{AllIsSent, BeginsInHand, CallsStand, ClaimsStand, ClosuresAreAsked, IdsAreOut, IsGrant, IsIds, IsKept, IsRecall, IsRestarted, NeedsAreNamed, OpeningIsInOrder, OrderAgrees, OrderStays, PushesAsk, RecallsAnswer, RoomsKeep, SpentStays, TakesMessage, TokensGoBack, WantsKeep};
 
 /// A clerk by itself is in order when it starts, and behind each of its functions; so is each at the beginning.
 pub fn clerks_stay_in_order()
@@ -35,11 +35,11 @@ pub fn clerks_may_give_back()
 
 /// They stand behind each message taken that answers no call and leaves the session.
 pub fn clerks_may_take()
-    ensures grants { Takes IsGrant }
-    ensures recalls { Takes IsRecall }
-    ensures kept { Takes IsKept }
-    ensures ids { Takes IsIds }
-    ensures restarts { Takes IsRestarted }
+    ensures grants { TakesMessage IsGrant }
+    ensures recalls { TakesMessage IsRecall }
+    ensures kept { TakesMessage IsKept }
+    ensures ids { TakesMessage IsIds }
+    ensures restarts { TakesMessage IsRestarted }
 {}
 
 /// They stand behind a flush, a bye and a resend of a clerk in a session; and a counter that is spent stays so.

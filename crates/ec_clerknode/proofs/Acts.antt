@@ -12,7 +12,7 @@ use Rattle.ec_clerknode.specs.declared.fault.NodeFault.TheVariants as fault
 use Rattle.ec_clerknode.specs.declared.step.Deed.{Deed}
 use Rattle.ec_clerknode.specs.declared.step.Deed.TheVariants.{Began, Picked, Parted, Resent, NotBegun, NotPicked}
 use Rattle.ec_clerknode.specs.Folded.{begun, picked, parted, resent}
-use Rattle.ec_clerknode.specs.FoldedAnswers.{Comes}
+use Rattle.ec_clerknode.specs.FoldedAnswers.{ComesOut}
 use Rattle.ec_clerknode.specs.Run.{after, outs_of, IsDeed, mark_of_deed}
 use Rattle.ec_clerknode.specs.Parts.{is_linked}
 use Rattle.ec_clerknode.specs.Closed.{Acts, IsOwn}
@@ -43,7 +43,7 @@ own : (act : Act) (d : Deed) → act.deed ≡ d → IsOwn d → IsOwn act.deed
 own act d e o = subst IsOwn (sym e) o
 
 module _ (c k : Clerk) (act : Act) where
-  pub began : (shot : Snapshot Call) (call : Call) (number : ℕ) (outs : List Out) → shot.value ≡ call → number ≡ c.calls + 1 → Comes (begun call c) k outs → IsAct act (Began shot number) outs None → Acts c act k × IsOwn act.deed
+  pub began : (shot : Snapshot Call) (call : Call) (number : ℕ) (outs : List Out) → shot.value ≡ call → number ≡ c.calls + 1 → ComesOut (begun call c) k outs → IsAct act (Began shot number) outs None → Acts c act k × IsOwn act.deed
   began shot call number outs e next came is =
       let same = ap (λ x. begun x c) e in (
         acts_step c k (Began shot number) outs act refl (next, ap (λ d. d.spent) same ∙ came.2) (sym (ap (λ d. d.outs) same ∙ came.1)) (sym (ap (λ d. d.clerk) same ∙ came.0)) is,
@@ -56,7 +56,7 @@ module _ (c k : Clerk) (act : Act) where
     own act (NotBegun shot counter) is.0 (refl, refl),
   )
 
-  pub flushed : (shot : Snapshot Asked) (asked : Asked) (outs : List Out) → shot.value ≡ asked → Comes (picked asked c) k outs → IsAct act (Picked shot) outs None → Acts c act k × IsOwn act.deed
+  pub flushed : (shot : Snapshot Asked) (asked : Asked) (outs : List Out) → shot.value ≡ asked → ComesOut (picked asked c) k outs → IsAct act (Picked shot) outs None → Acts c act k × IsOwn act.deed
   flushed shot asked outs e came is =
       let same = ap (λ x. picked x c) e in (
         acts_step c k (Picked shot) outs act refl (ap (λ d. d.spent) same ∙ came.2) (sym (ap (λ d. d.outs) same ∙ came.1)) (sym (ap (λ d. d.clerk) same ∙ came.0)) is,
@@ -69,8 +69,8 @@ module _ (c k : Clerk) (act : Act) where
     own act (NotPicked shot counter) is.0 (refl, refl),
   )
 
-  pub again : (outs : List Out) → Comes (resent c) k outs → IsAct act Resent outs None → Acts c act k × IsOwn act.deed
+  pub again : (outs : List Out) → ComesOut (resent c) k outs → IsAct act Resent outs None → Acts c act k × IsOwn act.deed
   again outs came is = (acts_step c k Resent outs act refl came.2 (sym came.1) (sym came.0) is, own act Resent is.0 (refl, refl))
 
-  pub left : (outs : List Out) → Comes (parted c) k outs → IsAct act Parted outs None → Acts c act k × IsOwn act.deed
+  pub left : (outs : List Out) → ComesOut (parted c) k outs → IsAct act Parted outs None → Acts c act k × IsOwn act.deed
   left outs came is = (acts_step c k Parted outs act refl came.2 (sym came.1) (sym came.0) is, own act Parted is.0 (refl, refl))

@@ -10,7 +10,7 @@ use Rattle.ec_outs.specs.Outs.{encoded, sends}
 use Rattle.ec_clerknode.specs.Run.{IsSaid}
 use Rattle.ec_clerknode.specs.declared.fault.NodeFault.{NodeFault}
 use Rattle.ec_clerknode.specs.declared.fault.NodeFault.TheVariants as fault
-use Rattle.ec_clerknode.specs.Closed.{IsMark, Stops, is_wanting}
+use Rattle.ec_clerknode.specs.Closed.{IsMark, StopsTurn, is_wanting}
 
 pub kept_or : {X : Type 0} (r : Bool) (new more : List X) → MatchBool r (new ≡ more) (new ≡ []) → (new ≡ more) ⊎ (new ≡ [])
 kept_or true new more h = inl h
@@ -20,7 +20,7 @@ pub got_said : (o p : Option (List (List ℕ))) (n : ℕ) (outs shot : List Out)
 got_said o p n outs shot e same = e ∙ ap (λ l. added o (map encoded (take n (sends l)))) same
 
 -- a turn ends with its mark
-pub stops_marked : (boot : Option Age) (end : Sent) (marked : Option NodeFault) (f : NodeFault) → IfSome marked IsMark → boot ≡ None → marked ≡ Some f → Stops boot end marked f
+pub stops_marked : (boot : Option Age) (end : Sent) (marked : Option NodeFault) (f : NodeFault) → IfSome marked IsMark → boot ≡ None → marked ≡ Some f → StopsTurn boot end marked f
 stops_marked boot end marked fault.Net is none e = (none, inr e)
 stops_marked boot end marked (fault.Peer place) is none e = (none, e)
 stops_marked boot end marked (fault.Long n) is none e = (none, e)

@@ -23,7 +23,7 @@ use Rattle.ec_outs.specs.declared.kept.Kept.{Kept}
 use Rattle.ec_clerknode.specs.declared.state.Node.{Node}
 use Rattle.ec_clerknode.specs.declared.waiting.Waiting.{Waiting}
 use Rattle.ec_clerknode.specs.Folded.{floor_of, linked}
-use Rattle.ec_clerknode.specs.FoldedAnswers.{Comes}
+use Rattle.ec_clerknode.specs.FoldedAnswers.{ComesOut}
 use Rattle.ec_clerknode.specs.Run.{after, outs_of, IsDeed, IsStep, IsRun, heard_of, IsSaid, AreSaid, said_in, told_in, told_by, old_boots_in, old_boot, Among}
 use Rattle.ec_clerknode.specs.RunEnds.{highest, leads, Wanted, Came, net_of}
 use Rattle.ec_clerknode.specs.Parts.{is_linked}
@@ -178,7 +178,7 @@ module _ {L : Type 0} (counts : L → ℕ) (given : L → Option (List Heard)) (
       (links_push first.linker xs step s.links (λ linked. subst (λ o. IsLinker o step.pass) (sym by) c.pass_is))
 
   -- the same, by what the clerk's greeting comes to
-  pub greets : (pass : ℕ) (outs : List Out) (step : Step) (old new : Node L) (link : L) → old.broken ≡ false → old.linker ≡ Some pass → IsEmpty (given link) → IsEmpty (got link) → Comes (linked old.clerk) old.clerk outs
+  pub greets : (pass : ℕ) (outs : List Out) (step : Step) (old new : Node L) (link : L) → old.broken ≡ false → old.linker ≡ Some pass → IsEmpty (given link) → IsEmpty (got link) → ComesOut (linked old.clerk) old.clerk outs
       → Closed counts given got pass Linked outs step (record old { link = link; is_down = false; owes = true }) new → Keeps counts given got old new
   greets pass outs step old new link up linker none_given none_got came closed = exchanges pass outs step old (record old { link = link; is_down = false; owes = true }) new
       (record { up = up; still_up = up; is = came.2; outs_are = sym came.1; clerk = sym came.0; kept = refl; told_same = refl; boot = refl; steps = refl; top = refl; list = refl; linker = refl }) none_given none_got linker closed

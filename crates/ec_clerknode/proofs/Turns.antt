@@ -29,9 +29,9 @@ use Rattle.ec_clerknode.specs.Run.{told_by, heard_of, heard_by, said_in, says_by
 use Rattle.ec_clerknode.specs.RunEnds.{Wanted, Came, leads, highest}
 use Rattle.ec_clerknode.specs.Node.{AnsweredAt}
 use Rattle.ec_clerknode.specs.NodeSteps.{Since, By, AnsweredFrom}
-use Rattle.ec_clerknode.specs.Closed.{More, Caused, Closed, GoesOn, EndsAs, Stops, Fails, Fell, Begun, Works, Flushes, PartsIf, PartsBehind, Resends, ReadsFlushes, Links, Started, Waited}
+use Rattle.ec_clerknode.specs.Closed.{More, Caused, Closed, GoesOnAfter, EndsAs, StopsTurn, Fails, Fell, Begun, Works, Flushes, PartsIf, PartsBehind, Resends, ReadsFlushes, Links, Started, Waited}
 use Rattle.ec_clerknode.specs.Turns.{number_of, calls_by, Replied, SaidBye}
-use Rattle.ec_clerknode.specs.PassTurns.{Failed, Called, Worked, Partings, Stays, Turned, Pending, Starts, Waits, PickedLast, Asks, FlushTurned, Finished, FinishedAlone, HandsBack, Relinked}
+use Rattle.ec_clerknode.specs.PassTurns.{Failed, Called, Worked, Partings, Stays, Turned, Pending, Starts, Waits, PickedLast, AsksFlush, FlushTurned, Finished, FinishedAlone, HandsBack, Relinked}
 use Rattle.ec_clerknode.proofs.Lists.{prefix_length, prefix_get, get_last}
 use Rattle.ec_clerknode.proofs.Parts.{came_over, none_linked}
 use Rattle.ec_clerknode.proofs.Parts as Parts
@@ -68,7 +68,7 @@ caused-right boot (fault.Spent counter) xs ys c = (c.0, marks-right (fault.Spent
 caused-right boot fault.NoMemory xs ys c = tt
 
 -- where neither the deed nor the turn has a mark, the fault is how the step's sending ended
-stopped : (boot : Option Age) (step : Step) (marked : Option NodeFault) (f : NodeFault) → marked ≡ None → mark_of_deed step.deed ≡ [] → Stops boot step.end marked f → Caused boot f (step ∷ [])
+stopped : (boot : Option Age) (step : Step) (marked : Option NodeFault) (f : NodeFault) → marked ≡ None → mark_of_deed step.deed ≡ [] → StopsTurn boot step.end marked f → Caused boot f (step ∷ [])
 stopped boot step marked fault.Net none own h = (
   h.0,
   ⊎_elim (λ (e : step.end ≡ sent.Failed). subst (λ l. Among fault.Net ((l ++ mark_of_end step.end) ++ [])) (sym own) (subst (λ x. Among fault.Net (mark_of_end x ++ [])) (sym e) (inl refl)))
@@ -133,7 +133,7 @@ module _ {L : Type 0} where
   parts_more pass v w (Err f) b = fails_more pass [] v w f b
 
   -- a goodbye that the link took, or none
-  pub parts_so : (pass : ℕ) (old mid new : Node L) (step : Step) (lasts is_down said : Bool) (marked : Option NodeFault) → said ≡ not is_down → step.deed ≡ Parted → says_bye (sends step.outs.value.items) ≡ true → GoesOn lasts is_down step.end marked
+  pub parts_so : (pass : ℕ) (old mid new : Node L) (step : Step) (lasts is_down said : Bool) (marked : Option NodeFault) → said ≡ not is_down → step.deed ≡ Parted → says_bye (sends step.outs.value.items) ≡ true → GoesOnAfter lasts is_down step.end marked
       → mid.trace.items ≡ old.trace.items → More pass mid new (step ∷ []) → PartsIf said pass old new
   parts_so pass old mid new step lasts true said marked e deed says ends same m =
       subst (λ b. PartsIf b pass old new) (sym e) (step ∷ [], (m.0 ∙ ap (λ l. l ++ step ∷ []) same, m.1), append-nil (call_of step.deed) ∙ ap call_of deed)
@@ -280,7 +280,7 @@ module _ {L : Type 0} where
             picked_last asked b.0 b.2.0 step.0 r.1 (b.1 first sv) b.2.1 f,
           )
 
-      pub asks : {A : Type 0} (asked : Asked) (r : Result (A × Flushed) NodeFault) → ReadsFlushes counts given got pass asked v w r → Asks first.clerk pass asked before after r
+      pub asks : {A : Type 0} (asked : Asked) (r : Result (A × Flushed) NodeFault) → ReadsFlushes counts given got pass asked v w r → AsksFlush first.clerk pass asked before after r
       asks asked (Ok r) b = flushes asked r b
       asks asked (Err f) b = fails [] f b
 

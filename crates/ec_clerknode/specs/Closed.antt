@@ -97,21 +97,21 @@ IsMark (fault.Spent counter) = Unit {0}
 IsMark fault.NoMemory = Unit {0}
 
 -- how a turn with this mark ends
-abbrev pub Stops : Option Age → Sent → Option NodeFault → NodeFault → Type 0
-Stops boot end marked fault.Net = (boot ≡ None) × ((end ≡ sent.Failed) ⊎ (marked ≡ Some fault.Net))
-Stops boot end marked (fault.Peer place) = (boot ≡ None) × (marked ≡ Some (fault.Peer place))
-Stops boot end marked (fault.Long n) = (boot ≡ None) × (marked ≡ Some (fault.Long n))
-Stops boot end marked (fault.OldBoot age) = boot ≡ Some age
-Stops boot end marked (fault.Spent counter) = (boot ≡ None) × (marked ≡ Some (fault.Spent counter))
-Stops boot end marked fault.NoMemory = Unit {0}
+abbrev pub StopsTurn : Option Age → Sent → Option NodeFault → NodeFault → Type 0
+StopsTurn boot end marked fault.Net = (boot ≡ None) × ((end ≡ sent.Failed) ⊎ (marked ≡ Some fault.Net))
+StopsTurn boot end marked (fault.Peer place) = (boot ≡ None) × (marked ≡ Some (fault.Peer place))
+StopsTurn boot end marked (fault.Long n) = (boot ≡ None) × (marked ≡ Some (fault.Long n))
+StopsTurn boot end marked (fault.OldBoot age) = boot ≡ Some age
+StopsTurn boot end marked (fault.Spent counter) = (boot ≡ None) × (marked ≡ Some (fault.Spent counter))
+StopsTurn boot end marked fault.NoMemory = Unit {0}
 
 -- all went well, or the link failed or was closed where another one will come
-abbrev pub GoesOn : Bool → Bool → Sent → Option NodeFault → Type 0
-GoesOn lasts is_down end marked = ((marked ≡ None) × (end ≡ sent.Done)) ⊎ ((lasts ≡ true) × (is_down ≡ true) × ((marked ≡ None) ⊎ (marked ≡ Some fault.Net)) × ((end ≡ sent.Done) ⊎ (end ≡ sent.Failed)))
+abbrev pub GoesOnAfter : Bool → Bool → Sent → Option NodeFault → Type 0
+GoesOnAfter lasts is_down end marked = ((marked ≡ None) × (end ≡ sent.Done)) ⊎ ((lasts ≡ true) × (is_down ≡ true) × ((marked ≡ None) ⊎ (marked ≡ Some fault.Net)) × ((end ≡ sent.Done) ⊎ (end ≡ sent.Failed)))
 
 abbrev pub EndsAs : {A : Type 0} → Option Age → Bool → Bool → Sent → Option NodeFault → Result A NodeFault → Type 0
-EndsAs boot lasts is_down end marked (Ok x) = (boot ≡ None) × GoesOn lasts is_down end marked
-EndsAs boot lasts is_down end marked (Err f) = Stops boot end marked f
+EndsAs boot lasts is_down end marked (Ok x) = (boot ≡ None) × GoesOnAfter lasts is_down end marked
+EndsAs boot lasts is_down end marked (Err f) = StopsTurn boot end marked f
 
 -- the list has grown by these steps of this pass
 abbrev pub More : {L : Type 0} → ℕ → Node L → Node L → List Step → Type 0

@@ -16,8 +16,8 @@ unfoldable pub answer_to : Asked → Clerk → Flushed
 answer_to asked c = protocol.flush_answer asked c
 
 -- the step was taken, and these came out
-abbrev pub Comes : Doing → Clerk → List Out → Type 0
-Comes d c outs = (d.clerk ≡ c) × (d.outs ≡ outs) × (d.spent ≡ None)
+abbrev pub ComesOut : Doing → Clerk → List Out → Type 0
+ComesOut d c outs = (d.clerk ≡ c) × (d.outs ≡ outs) × (d.spent ≡ None)
 
 abbrev pub refused_by : ClerkFault → Refused
 refused_by (fault.Spent counter) = refused.Spent counter
@@ -25,6 +25,6 @@ refused_by fault.NoSuchOp = refused.NoMemory
 refused_by fault.NoMemory = refused.NoMemory
 
 -- the step would pass this counter, and the clerk is as before
-abbrev pub Refuses : Refused → Doing → Clerk → Clerk → Type 0
-Refuses (refused.Spent counter) d old new = (d.spent ≡ Some counter) × (new ≡ old)
-Refuses refused.NoMemory d old new = Unit {0}
+abbrev pub RefusesStep : Refused → Doing → Clerk → Clerk → Type 0
+RefusesStep (refused.Spent counter) d old new = (d.spent ≡ Some counter) × (new ≡ old)
+RefusesStep refused.NoMemory d old new = Unit {0}

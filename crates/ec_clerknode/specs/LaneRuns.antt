@@ -20,7 +20,7 @@ use Rattle.ec_clerknode.specs.Closed.{Caused}
 use Rattle.ec_clerknode.specs.Run.{Among, marks, old_boot}
 use Rattle.ec_clerknode.specs.RunEnds.{highest}
 use Rattle.ec_clerknode.specs.Turns.{number_of, calls_by}
-use Rattle.ec_clerknode.specs.PassTurns.{Stays, Goes}
+use Rattle.ec_clerknode.specs.PassTurns.{Stays, GoesFrom}
 use Rattle.ec_clerknode.specs.Lanes.{AreReplied, IsFront, AreLanes, AreFronts}
 
 -- The pass has begun just these calls since the front before, each once and in order, with these answers. With a fault it has begun a front of them, and
@@ -111,6 +111,6 @@ TellsOldBoot boot (Err f) = (age : Age) → boot ≡ Some age → f ≡ fault.Ol
 
 -- the turns of a pass at the lock, of which the last one had the whole list
 pub record Looked {L : Type 0} (lock : TracedLock (Node L) Step) (old new : Pass (Node L) Step) : Type 0 where
-  pub goes : Goes (first lock).clerk (front old) (front new)
+  pub goes : GoesFrom (first lock).clerk (front old) (front new)
   pub marked : Marked old (highest (front new))
   pub raises : highest (front new) ≤ raised new

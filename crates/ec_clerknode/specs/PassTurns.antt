@@ -27,8 +27,8 @@ use Rattle.ec_clerknode.specs.PresentLink.{Over, Counted, LinksBy}
 use Rattle.ec_clerknode.specs.Turns.{number_of, calls_by, BeganAt, Replied, SaidBye}
 
 -- the list that the pass has is a run from this clerk, and goes on from the front before
-abbrev pub Goes : Clerk → List Step → List Step → Type 0
-Goes c before after = IsRun c after × IsPrefix before after
+abbrev pub GoesFrom : Clerk → List Step → List Step → Type 0
+GoesFrom c before after = IsRun c after × IsPrefix before after
 
 module _ {L : Type 0} where
   -- what stays of a pass in its turns. The mark that it raised may rise.
@@ -41,7 +41,7 @@ module _ {L : Type 0} where
   pub record Turned (lock : TracedLock (Node L) Step) (old new : Pass (Node L) Step) : Type 0 where
     pub is_pass : IsPassOf lock new
     pub stays : Stays old new
-    pub goes : Goes (first lock).clerk (front old) (front new)
+    pub goes : GoesFrom (first lock).clerk (front old) (front new)
     pub marked : Marked old (highest (front new))
     pub raises : highest (front new) ≤ raised new
     pub others : (n : ℕ) → Member n (numbers old) → ¬ (n ≡ old.number) → of number_of n (front old) ≡ of number_of n (front new)
@@ -79,9 +79,9 @@ abbrev pub FlushTurned : Clerk → ℕ → Asked → List Step → List Step →
 FlushTurned c pass asked before after (Ok answer) = Worked pass before after (Ok answer) × PickedLast c pass asked before after answer
 FlushTurned c pass asked before after (Err f) = Failed pass [] before after f
 
-abbrev pub Asks : {A : Type 0} → Clerk → ℕ → Asked → List Step → List Step → Result (A × Flushed) NodeFault → Type 0
-Asks c pass asked before after (Ok r) = FlushTurned c pass asked before after (Ok r.1)
-Asks c pass asked before after (Err f) = FlushTurned c pass asked before after (Err f)
+abbrev pub AsksFlush : {A : Type 0} → Clerk → ℕ → Asked → List Step → List Step → Result (A × Flushed) NodeFault → Type 0
+AsksFlush c pass asked before after (Ok r) = FlushTurned c pass asked before after (Ok r.1)
+AsksFlush c pass asked before after (Err f) = FlushTurned c pass asked before after (Err f)
 
 -- a call is begun behind the old front, at this place and with this number
 abbrev pub Pending : ℕ → Call → List Step → List Step → ℕ → ℕ → Type 0

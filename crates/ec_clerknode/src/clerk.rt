@@ -3,7 +3,7 @@ ghost use Rattle.std.specs.Prelude.{◌≡◌, ◌+◌, [], true, IfOk, IfErr, I
 ghost use Rattle.ec_protocol.specs.declared.clerk.ClerkFault.TheVariants as fault;
 ghost use Rattle.ec_wire.specs.Messages.{is_sound};
 ghost use Rattle.ec_clerknode.specs.Folded.{begun, taken, picked, parted, resent, linked, floor_of};
-ghost use Rattle.ec_clerknode.specs.FoldedAnswers.{answer_to, refused_by, Comes, Refuses};
+ghost use Rattle.ec_clerknode.specs.FoldedAnswers.{answer_to, refused_by, ComesOut, RefusesStep};
 ghost use Rattle.ec_clerknode.specs.Run.{says_bye};
 ghost use Rattle.ec_outs.specs.Outs.{sends};
 
@@ -34,8 +34,8 @@ fn refusal(fault: ClerkFault) -> Refused
 #[tactic(auto, unfolding(crate::specs::Folded::begun))]
 pub fn begin(clerk: &mut Clerk, call: Call) -> Result<(u64, Vec<Out>), Refused>
     ensures number { IfOk result (λ r. r.0 ≡ clerk.old.calls + 1) }
-    ensures ok { IfOk result (λ r. Comes (begun call clerk.old) clerk.new r.1.items) }
-    ensures err { IfErr result (λ f. Refuses f (begun call clerk.old) clerk.old clerk.new) }
+    ensures ok { IfOk result (λ r. ComesOut (begun call clerk.old) clerk.new r.1.items) }
+    ensures err { IfErr result (λ f. RefusesStep f (begun call clerk.old) clerk.old clerk.new) }
 {
     match clerk.begin(call) {
         Ok(made) => Ok(made),
@@ -47,8 +47,8 @@ pub fn begin(clerk: &mut Clerk, call: Call) -> Result<(u64, Vec<Out>), Refused>
 #[tactic(auto, unfolding(crate::specs::Folded::taken))]
 pub fn take(clerk: &mut Clerk, msg: Msg) -> Result<Vec<Out>, Refused>
     requires { is_sound msg ≡ true }
-    ensures ok { IfOk result (λ outs. Comes (taken msg clerk.old) clerk.new outs.items) }
-    ensures err { IfErr result (λ f. Refuses f (taken msg clerk.old) clerk.old clerk.new) }
+    ensures ok { IfOk result (λ outs. ComesOut (taken msg clerk.old) clerk.new outs.items) }
+    ensures err { IfErr result (λ f. RefusesStep f (taken msg clerk.old) clerk.old clerk.new) }
 {
     match clerk.take(msg) {
         Ok(outs) => Ok(outs),
@@ -60,8 +60,8 @@ pub fn take(clerk: &mut Clerk, msg: Msg) -> Result<Vec<Out>, Refused>
 #[tactic(auto, unfolding(crate::specs::Folded::picked, crate::specs::FoldedAnswers::answer_to))]
 pub fn flush(clerk: &mut Clerk, asked: Asked) -> Result<(Flushed, Vec<Out>), Refused>
     ensures answer { IfOk result (λ r. r.0 ≡ answer_to asked clerk.old) }
-    ensures ok { IfOk result (λ r. Comes (picked asked clerk.old) clerk.new r.1.items) }
-    ensures err { IfErr result (λ f. Refuses f (picked asked clerk.old) clerk.old clerk.new) }
+    ensures ok { IfOk result (λ r. ComesOut (picked asked clerk.old) clerk.new r.1.items) }
+    ensures err { IfErr result (λ f. RefusesStep f (picked asked clerk.old) clerk.old clerk.new) }
 {
     match clerk.flush(asked) {
         Ok(made) => Ok(made),
@@ -72,7 +72,7 @@ pub fn flush(clerk: &mut Clerk, asked: Asked) -> Result<(Flushed, Vec<Out>), Ref
 /// Says goodbye. Without a session there is nobody to say it to.
 #[tactic(auto, unfolding(crate::specs::Folded::parted))]
 pub fn bye(clerk: &mut Clerk) -> Result<Option<Vec<Out>>, NoMemory>
-    ensures ok { IfOk result (λ made. IfSome made (λ outs. Comes (parted clerk.old) clerk.new outs.items)) }
+    ensures ok { IfOk result (λ made. IfSome made (λ outs. ComesOut (parted clerk.old) clerk.new outs.items)) }
     ensures said { IfOk result (λ made. IfSome made (λ outs. says_bye (sends outs.items) ≡ true)) }
     ensures none { IfOk result (λ made. IfNone made ((clerk.new ≡ clerk.old) × ((parted clerk.old).outs ≡ []))) }
 {
@@ -89,7 +89,7 @@ pub fn bye(clerk: &mut Clerk) -> Result<Option<Vec<Out>>, NoMemory>
 /// Greets by a new link.
 #[tactic(auto, unfolding(crate::specs::Folded::linked))]
 pub fn greet(clerk: &Clerk) -> Result<Vec<Out>, NoMemory>
-    ensures { IfOk result (λ outs. Comes (linked clerk.now) clerk.now outs.items) }
+    ensures { IfOk result (λ outs. ComesOut (linked clerk.now) clerk.now outs.items) }
 {
     clerk.greet()
 }
@@ -97,7 +97,7 @@ pub fn greet(clerk: &Clerk) -> Result<Vec<Out>, NoMemory>
 /// Sends again what is held and what is outstanding.
 #[tactic(auto, unfolding(crate::specs::Folded::resent))]
 pub fn resend(clerk: &mut Clerk) -> Result<Vec<Out>, NoMemory>
-    ensures { IfOk result (λ outs. Comes (resent clerk.old) clerk.new outs.items) }
+    ensures { IfOk result (λ outs. ComesOut (resent clerk.old) clerk.new outs.items) }
 {
     clerk.resend().ok().ok_or(NoMemory)
 }

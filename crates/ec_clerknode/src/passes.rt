@@ -7,7 +7,7 @@ ghost use Rattle.ec_lock.specs.PassViews.{first, front, numbers, next_number, ra
 ghost use Rattle.ec_lock.specs.Steps.{Member, of};
 ghost use Rattle.ec_clerknode.specs.RunEnds.{highest};
 ghost use Rattle.ec_clerknode.specs.Turns.{number_of};
-ghost use Rattle.ec_clerknode.specs.PassTurns.{Goes};
+ghost use Rattle.ec_clerknode.specs.PassTurns.{GoesFrom};
 
 use crate::shared::SharedClerk;
 use crate::state::Node;
@@ -33,7 +33,7 @@ impl<L: Link> SharedClerk<L> {
         requires pass { IsPassOf self.now.lock pass.old }
         ensures pass { IsPassOf self.now.lock pass.new }
         ensures same { Same pass.old pass.new }
-        ensures goes { Goes (first self.now.lock).clerk (front pass.old) (front pass.new) }
+        ensures goes { GoesFrom (first self.now.lock).clerk (front pass.old) (front pass.new) }
         ensures own { (n : ℕ) → Member n (numbers pass.old) → of number_of n (front pass.old) ≡ of number_of n (front pass.new) }
         ensures mark { Marked pass.old (highest (front pass.new)) }
         ensures new { IfSome result (λ new. IsPassOf self.now.lock new) }

@@ -12,7 +12,7 @@ ghost use Rattle.ec_clerknode.specs.NodeSteps.{Since};
 ghost use Rattle.ec_clerknode.specs.Run.{old_boot, told_by, heard_by, AreSaid};
 ghost use Rattle.ec_clerknode.specs.RunEnds.{highest, Wanted, Came};
 ghost use Rattle.ec_clerknode.specs.Turns.{number_of, SaidBye};
-ghost use Rattle.ec_clerknode.specs.PassTurns.{Stays, Turned, Starts, Waits, Called, CalledPlain, Worked, Partings, Asks, FlushTurned, Finished, FinishedAlone};
+ghost use Rattle.ec_clerknode.specs.PassTurns.{Stays, Turned, Starts, Waits, Called, CalledPlain, Worked, Partings, AsksFlush, FlushTurned, Finished, FinishedAlone};
 ghost use Rattle.ec_clerknode.specs.PresentLink.{CameOver, LinksBy};
 
 use crate::fault::NodeFault;
@@ -264,7 +264,7 @@ impl<L: Link> SharedClerk<L> {
     ) -> Result<(bool, Flushed), NodeFault>
         requires pass { IsPassOf self.now.lock pass.old }
         ensures turned { Turned self.now.lock pass.old pass.new }
-        ensures asks { Asks (first self.now.lock).clerk pass.old.number asked (front pass.old) (front pass.new) result }
+        ensures asks { AsksFlush (first self.now.lock).clerk pass.old.number asked (front pass.old) (front pass.new) result }
         ensures said { OnOk result (AreSaid (front pass.new)) }
     {
         let number = pass.number();

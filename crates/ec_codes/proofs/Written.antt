@@ -7,21 +7,21 @@ use Rattle.std.specs.Int.{w16, w32, w64, to_be_bytes}
 use Rattle.std.proofs.lemmas.Bool.{and_from, and_parts}
 use Rattle.ec_volume.specs.Entries.{Entries}
 use Rattle.ec_codes.specs.Formats.{Format, number}
-use Rattle.ec_codes.specs.Spelling.{Keeps, Writes, Puts}
+use Rattle.ec_codes.specs.Spelling.{KeepsFront, Writes, Puts}
 use Rattle.ec_codes.specs.Fields.{mode_field, id, flag, flag_number}
 use Rattle.ec_codes.specs.Updates.{is_put_length, put_fields}
 use Rattle.ec_codes.specs.Images.{content, entries_field, file_fields, dir_fields}
 
 -- what was there stays in front, from one step to the next
-pub and_on : (a b c : List ℕ) → Keeps a b → Keeps b c → Keeps a c
+pub and_on : (a b c : List ℕ) → KeepsFront a b → KeepsFront b c → KeepsFront a c
 and_on a b c k l = (k.0 ++ l.0, l.1 ∙ ap (λ xs. xs ++ l.0) k.1 ∙ append_assoc a k.0 l.0)
 
-pub seven_on : (b0 b1 b2 b3 b4 b5 b6 b7 : List ℕ) → Keeps b0 b1 → Keeps b1 b2 → Keeps b2 b3 → Keeps b3 b4 → Keeps b4 b5 → Keeps b5 b6 → Keeps b6 b7 → Keeps b0 b7
+pub seven_on : (b0 b1 b2 b3 b4 b5 b6 b7 : List ℕ) → KeepsFront b0 b1 → KeepsFront b1 b2 → KeepsFront b2 b3 → KeepsFront b3 b4 → KeepsFront b4 b5 → KeepsFront b5 b6 → KeepsFront b6 b7 → KeepsFront b0 b7
 seven_on b0 b1 b2 b3 b4 b5 b6 b7 k0 k1 k2 k3 k4 k5 k6 =
     and_on b0 b1 b7 k0 (and_on b1 b2 b7 k1 (and_on b2 b3 b7 k2 (and_on b3 b4 b7 k3 (and_on b4 b5 b7 k4 (and_on b5 b6 b7 k5 k6)))))
 
 -- a last field behind what was written already
-pub then_puts : {T E A B : Type 0} (r : Result T E) (F : Format A) (x : A) (G : Format B) (y : B) (old mid new : List ℕ) → Keeps old mid → (Writes F x mid new → Writes G y old new) → Puts F x mid r new → Puts G y old r new
+pub then_puts : {T E A B : Type 0} (r : Result T E) (F : Format A) (x : A) (G : Format B) (y : B) (old mid new : List ℕ) → KeepsFront old mid → (Writes F x mid new → Writes G y old new) → Puts F x mid r new → Puts G y old r new
 then_puts (Ok t) F x G y old mid new k f p = f p
 then_puts (Err e) F x G y old mid new k f p = and_on old mid new k p
 

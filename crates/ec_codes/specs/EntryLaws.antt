@@ -44,9 +44,9 @@ both : (a b : Bool) → T a → T b → T (a && b)
 both true b p q = q
 both false b p q = absurd p
 
-first : (a b : Bool) → T (a && b) → T a
-first true b p = tt
-first false b p = absurd p
+first_of_both : (a b : Bool) → T (a && b) → T a
+first_of_both true b p = tt
+first_of_both false b p = absurd p
 
 is_true : (b : Bool) → T b → b ≡ true
 is_true true p = refl
@@ -60,19 +60,19 @@ are_rising before (e ∷ es) = is_after before e.0 && are_rising (before ++ e �
 below_less : (x y : List ℕ) (es : Entries) → by_bytes x y ≡ Less → T (below_all by_bytes y es) → T (below_all by_bytes x es)
 below_less x y [] p h = tt
 below_less x y (e ∷ es) p h =
-    both _ _ (subst (λ r. T (is_lt r)) (sym (nat_list_cmp_total.trans x y e.0 p (less _ (first _ _ h)))) tt) (below_less x y es p (second _ _ h))
+    both _ _ (subst (λ r. T (is_lt r)) (sym (nat_list_cmp_total.trans x y e.0 p (less _ (first_of_both _ _ h)))) tt) (below_less x y es p (second _ _ h))
 
 pub sorted_push : (es : Entries) (e : List ℕ × ℕ) → T (is_sorted by_bytes es) → T (is_after es e.0) → T (is_sorted by_bytes (es ++ e ∷ []))
 sorted_push [] e s h = tt
 sorted_push (f ∷ []) e s h = both _ _ (both _ _ h tt) tt
 sorted_push (f ∷ g ∷ es) e s h =
     let rest : T (is_sorted by_bytes ((g ∷ es) ++ e ∷ [])) = sorted_push (g ∷ es) e (second _ _ s) h in
-    let here : T (is_lt (by_bytes f.0 g.0)) = first _ _ (first _ _ s) in
-    both _ _ (both _ _ here (below_less f.0 g.0 (es ++ e ∷ []) (less _ here) (first _ _ rest))) rest
+    let here : T (is_lt (by_bytes f.0 g.0)) = first_of_both _ _ (first_of_both _ _ s) in
+    both _ _ (both _ _ here (below_less f.0 g.0 (es ++ e ∷ []) (less _ here) (first_of_both _ _ rest))) rest
 
 after_of : (before es : Entries) (e : List ℕ × ℕ) → T (is_sorted by_bytes (before ++ e ∷ es)) → T (is_after before e.0)
 after_of [] es e s = tt
-after_of (f ∷ []) es e s = first _ _ (first _ _ s)
+after_of (f ∷ []) es e s = first_of_both _ _ (first_of_both _ _ s)
 after_of (f ∷ g ∷ before) es e s = after_of (g ∷ before) es e (second _ _ s)
 
 rising_sorted : (before es : Entries) → T (is_sorted by_bytes before) → are_rising before es ≡ true → T (is_sorted by_bytes (before ++ es))

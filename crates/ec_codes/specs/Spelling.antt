@@ -31,9 +31,9 @@ abbrev pub Writes : {A : Type 0} → Format A → A → List ℕ → List ℕ �
 Writes F x old new = (new ≡ old ++ F.spell x) × (F.fits x ≡ true)
 
 -- new begins with old
-abbrev pub Keeps : List ℕ → List ℕ → Type 0
-Keeps old new = (rest : List ℕ) × (new ≡ old ++ rest)
+abbrev pub KeepsFront : List ℕ → List ℕ → Type 0
+KeepsFront old new = (rest : List ℕ) × (new ≡ old ++ rest)
 
 -- the bytes of the value stand at the end, as its spelling, unless memory ran out; what was there stays in front
 abbrev pub Puts : {A T E : Type 0} → Format A → A → List ℕ → Result T E → List ℕ → Type 0
-Puts F x old result new = MatchResult result (λ _. Writes F x old new) (λ _. Keeps old new)
+Puts F x old result new = MatchResult result (λ _. Writes F x old new) (λ _. KeepsFront old new)

@@ -4,7 +4,7 @@ ghost use Rattle.std.specs.List.{flat_map, list_all};
 ghost use Rattle.std.specs.FinMap.{is_sorted};
 ghost use Rattle.ec_volume.specs.Entries.{by_bytes};
 ghost use Rattle.ec_volume.specs.Update.{distinct};
-ghost use Rattle.ec_codes.specs.Spelling.{Keeps, Puts};
+ghost use Rattle.ec_codes.specs.Spelling.{KeepsFront, Puts};
 ghost use Rattle.ec_codes.specs.EntryLaws.{is_entry};
 ghost use Rattle.ec_codes.specs.Images.{max_file_bytes, max_entries, ids_under, content, entry_spell, entries_field, file_fields, dir_fields, image_code};
 ghost use Rattle.ec_codes.specs.SoundImages.{is_sound_image};
@@ -104,7 +104,7 @@ fn put_entries(out: &mut Vec<u8>, entries: &Entries) -> Result<(), NoMemory>
 fn put_rows(out: &mut Vec<u8>, entries: &Entries) -> Result<(), NoMemory>
     ensures spelled { OnOk result (out.new.items ≡ out.old.items ++ flat_map entry_spell entries.now) }
     ensures fit { OnOk result (list_all is_entry entries.now ≡ true) }
-    ensures kept { Keeps out.old.items out.new.items }
+    ensures kept { KeepsFront out.old.items out.new.items }
 {
     for place in 0..entries.len() {
         if let Some(row) = entries.at(place) {
@@ -118,7 +118,7 @@ fn put_rows(out: &mut Vec<u8>, entries: &Entries) -> Result<(), NoMemory>
 fn put_row(out: &mut Vec<u8>, name: &Name, object: ObjId) -> Result<(), NoMemory>
     ensures spelled { OnOk result (out.new.items ≡ out.old.items ++ entry_spell (name.now, object)) }
     ensures fit { OnOk result (is_entry (name.now, object) ≡ true) }
-    ensures kept { Keeps out.old.items out.new.items }
+    ensures kept { KeepsFront out.old.items out.new.items }
 {
     put_name(out, name)?;
     put_id(out, object)

@@ -5,7 +5,7 @@ ghost use Rattle.std.specs.List.{flat_map, list_all};
 ghost use Rattle.ec_volume.specs.Entries.{same_name};
 ghost use Rattle.ec_volume.specs.Update.{listed, distinct, ids_of, is_way, is_sound};
 ghost use Rattle.ec_codes.specs.Formats.{number, rows_fit};
-ghost use Rattle.ec_codes.specs.Spelling.{Keeps, Puts, Writes};
+ghost use Rattle.ec_codes.specs.Spelling.{KeepsFront, Puts, Writes};
 ghost use Rattle.ec_codes.specs.Fields.{id, id_but, flag_number};
 ghost use Rattle.ec_codes.specs.Updates.{entry_fields, move_fields, is_put_length, put_fields, len_fields, mode_fields, stamp_fields, owner_fields, order_fields, step_spell, way_fields, shift_fields, update_code};
 ghost use Rattle.ec_codes.specs.SoundLaws.{is_step, IsWay};
@@ -224,7 +224,7 @@ fn put_distinct(out: &mut Vec<u8>, ids: &[ObjId]) -> Result<(), NoMemory>
     requires { distinct ids.now ≡ true }
     ensures spelled { OnOk result (out.new.items ≡ out.old.items ++ flat_map id.spell ids.now) }
     ensures fit { OnOk result (rows_fit id_but [] ids.now ≡ true) }
-    ensures kept { Keeps out.old.items out.new.items }
+    ensures kept { KeepsFront out.old.items out.new.items }
 {
     put_ids(out, ids)
 }
@@ -232,7 +232,7 @@ fn put_distinct(out: &mut Vec<u8>, ids: &[ObjId]) -> Result<(), NoMemory>
 fn put_ids(out: &mut Vec<u8>, ids: &[ObjId]) -> Result<(), NoMemory>
     ensures spelled { OnOk result (out.new.items ≡ out.old.items ++ flat_map id.spell ids.now) }
     ensures fit { OnOk result (list_all id.fits ids.now ≡ true) }
-    ensures kept { Keeps out.old.items out.new.items }
+    ensures kept { KeepsFront out.old.items out.new.items }
 {
     for object in ids {
         put_id(out, *object)?;
@@ -268,7 +268,7 @@ fn put_shift(
 
 fn put_way(out: &mut Vec<u8>, kind: Kind, into: ObjId, up: &[(ObjId, Name)]) -> Result<(), NoMemory>
     requires { is_way kind into up.now ≡ true }
-    ensures { MatchResult result (λ _. (others : List ℕ) → IsWay kind into others up.now → Writes (way_fields kind into others) up.now out.old.items out.new.items) (λ _. Keeps out.old.items out.new.items) }
+    ensures { MatchResult result (λ _. (others : List ℕ) → IsWay kind into others up.now → Writes (way_fields kind into others) up.now out.old.items out.new.items) (λ _. KeepsFront out.old.items out.new.items) }
 {
     put_byte(out, up.len() as u8)?;
     put_steps(out, up)?;
@@ -278,7 +278,7 @@ fn put_way(out: &mut Vec<u8>, kind: Kind, into: ObjId, up: &[(ObjId, Name)]) -> 
 fn put_steps(out: &mut Vec<u8>, up: &[(ObjId, Name)]) -> Result<(), NoMemory>
     ensures spelled { OnOk result (out.new.items ≡ out.old.items ++ flat_map step_spell up.now) }
     ensures fit { OnOk result (list_all is_step up.now ≡ true) }
-    ensures kept { Keeps out.old.items out.new.items }
+    ensures kept { KeepsFront out.old.items out.new.items }
 {
     for step in up {
         put_step(out, step)?;
@@ -290,7 +290,7 @@ fn put_steps(out: &mut Vec<u8>, up: &[(ObjId, Name)]) -> Result<(), NoMemory>
 fn put_step(out: &mut Vec<u8>, step: &(ObjId, Name)) -> Result<(), NoMemory>
     ensures spelled { OnOk result (out.new.items ≡ out.old.items ++ step_spell step.now) }
     ensures fit { OnOk result (is_step step.now ≡ true) }
-    ensures kept { Keeps out.old.items out.new.items }
+    ensures kept { KeepsFront out.old.items out.new.items }
 {
     put_id(out, step.0)?;
     put_name(out, &step.1)

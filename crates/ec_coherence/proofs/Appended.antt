@@ -34,7 +34,7 @@ use Rattle.ec_coherence.specs.System.{System, base_of, is_of, is_open, undurable
 use Rattle.ec_coherence.specs.Events.{EventsAgree, CutAgrees, Frees, IsUncut, shown_boot, shown_op, same_op}
 use Rattle.ec_coherence.proofs.Tables.{same_some, each-map}
 use Rattle.ec_coherence.specs.Answers.{IsLive, Sees, fresh_of, op_given, based}
-use Rattle.ec_coherence.specs.Comes.{Comes, begun_at, entry_next, ops_next, after_answer}
+use Rattle.ec_coherence.specs.Comes.{AnswerComes, begun_at, entry_next, ops_next, after_answer}
 use Rattle.ec_coherence.proofs.Answering.{old_fresh, new_fresh, alike, kept-now, is-at, fresh-here, answers-stand, given-issued}
 use Rattle.ec_base.proofs.Numbers.{same-self as same, equal}
 use Rattle.ec_base.proofs.Options.{none_some}
@@ -142,7 +142,7 @@ begun-answered w s op = ap (λ z. z.starts) (cond-true (answered (begun w) s op)
 
 -- The answer of a clerk that isn't cut off.
 module _ (g : System) (c b : ℕ) (k : Clerk) (d : Doing) (l : ℕ) (cl : Call) (a : Answer) (op : Option ℕ) (ev : EventsAgree g) (r : g.running c ≡ Some b) (q : g.clerks c b ≡ Some k)
-    (uncut : IsLive g c k) (s : Sees g k) (t : Comes g c b k d l cl a op) where
+    (uncut : IsLive g c k) (s : Sees g k) (t : AnswerComes g c b k d l cl a op) where
   abbrev x : ℕ
   x = fresh_of k
 

@@ -13,7 +13,7 @@ use Rattle.ec_wire.specs.Messages.{is_held_mode}
 use Rattle.ec_cache.specs.Cache.{last}
 use Rattle.ec_cache.specs.declared.state.Held.{Held}
 use Rattle.ec_coherence.specs.System.{recorded}
-use Rattle.ec_coherence.specs.Tokens.{Tables, View, Side, InSession, eff, eff_hold, Apart, Below, Names, BackFits, HeldAtMost, Lacks, NotedFits, Noted, TokensAgree}
+use Rattle.ec_coherence.specs.Tokens.{Tables, View, Side, InSession, eff, eff_hold, Apart, Below, Names, BackFits, HeldAtMost, LacksMode, NotedFits, Noted, TokensAgree}
 use Rattle.ec_coherence.proofs.Changed.{over, changed}
 use Rattle.ec_coherence.proofs.OneRow.{One, one-agrees}
 use Rattle.ec_coherence.proofs.Tables.{token-lowered, clash-below, each-map}
@@ -101,7 +101,7 @@ module _ (w : View) (v : Tables) (s e x n : ℕ) (h : Hold) (agree : TokensAgree
               low Free Write p t l = absurd (omega arith)
               low Read a p t l = absurd (cc)
               low Write a p t l = absurd (cc)
-      go false p q = subst (λ m. (m ≤ last x k.cache) × Lacks (at x k.cache.held) m g) before.2 q
+      go false p q = subst (λ m. (m ≤ last x k.cache) × LacksMode (at x k.cache.held) m g) before.2 q
 
   one : One w v ts v.recalls v.number s x (left h n)
   one = record {

@@ -24,7 +24,7 @@ use Rattle.ec_coherence.specs.System.{System, Ghost, clerk_in, eff_from, is_of, 
 use Rattle.ec_coherence.specs.Tokens.{eff, view}
 use Rattle.ec_coherence.specs.Events.{EventsAgree, shown_boot}
 use Rattle.ec_coherence.specs.Steps.{keep_batch, serving_in, Under}
-use Rattle.ec_coherence.specs.BatchLaws.{Agrees}
+use Rattle.ec_coherence.specs.BatchLaws.{BatchFacts}
 use Rattle.ec_coherence.proofs.Batched.{sent-numbers}
 use Rattle.ec_coherence.proofs.FlushAgrees as flushing
 use Rattle.ec_coherence.proofs.FlushAgrees.{flush-agrees}
@@ -132,9 +132,9 @@ module _ (g : System) (γ : Ghost) (t : Serving) (u : Under g t γ) (none : t.re
   pub flush-is : flush c s b ops sl t ≡ done
   flush-is = flushes here u.invariant.sessions u.invariant.tokens u.invariant.logs u.invariant.images c s sl k in_slot refl opened there b ns under unmarked t refl tokens-now
 
-  agrees : Agrees behind
+  agrees : BatchFacts behind
   agrees = lines-agree (serving_in done γ1 g) γ'.shown γ.history γ.fresh
-      (subst (λ z. Agrees (serving_in z γ1 g)) flush-is (flush-agrees g γ t u c sl k in_slot opened there b ns under unmarked tokens-now))
+      (subst (λ z. BatchFacts (serving_in z γ1 g)) flush-is (flush-agrees g γ t u c sl k in_slot opened there b ns under unmarked tokens-now))
 
   flushed : Under g done γ'
   flushed = record {

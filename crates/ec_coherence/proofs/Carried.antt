@@ -19,7 +19,7 @@ use Rattle.ec_volume.specs.Held.{with_image, changed_at, changed}
 use Rattle.ec_durable.specs.Durable.{carried_out, operations, op_fault, unreserved, made, spent, slot, with_slot}
 use Rattle.ec_durable.specs.declared.state.Durable.{Durable}
 use Rattle.ec_durable.specs.declared.record.RecordFault.{RecordFault}
-use Rattle.ec_coherence.specs.Log.{makes}
+use Rattle.ec_coherence.specs.Log.{made_by}
 use Rattle.ec_coherence.proofs.Lists.{or_else, each-at, each-member}
 use Rattle.ec_base.proofs.Bools.{left as and_first, not-both as no_both, and-both as and_both, or-right as or_next, right as and_next, or_first, no-longer as is-false, is-true, holds-true as holds}
 use Rattle.ec_base.proofs.Numbers.{same-self as same, equal}
@@ -154,7 +154,7 @@ with_ids sl xs = record sl { unspent = xs }
 pub record Carries (c : ℕ) (ops : List (ℕ × Update)) (d : Durable) (sl : Slot) : Type 0 where
   pub taken : operations c ops d ≡ Ok (all_carried c ops d)
   pub volume : (x : ℕ) → images (all_carried c ops d).volume x ≡ after (images d.volume) (updates_in ops) x
-  pub own : slot (all_carried c ops d) c ≡ Some (record sl { unspent = less (makes (updates_in ops)) sl.unspent })
+  pub own : slot (all_carried c ops d) c ≡ Some (record sl { unspent = less (made_by (updates_in ops)) sl.unspent })
   pub others : (j : ℕ) → j ≢ c → slot (all_carried c ops d) j ≡ slot d j
   pub next_id : (all_carried c ops d).next_id ≡ d.next_id
   pub next_session : (all_carried c ops d).next_session ≡ d.next_session
@@ -204,19 +204,19 @@ less-listed None xs us = refl
 less-listed (Some o) xs us = refl
 
 pub all-carry : (c : ℕ) (ops : List (ℕ × Update)) (d : Durable) (sl : Slot) → slot d c ≡ Some sl → T sl.is_open → Fits (images d.volume) (updates_in ops) → Each (λ op. T (is_sound op.1)) ops
-    → T (distinct (makes (updates_in ops))) → Each (λ x. T (member x sl.unspent)) (makes (updates_in ops)) → Carries c ops d sl
+    → T (distinct (made_by (updates_in ops))) → Each (λ x. T (member x sl.unspent)) (made_by (updates_in ops)) → Carries c ops d sl
 all-carry c [] d sl here opened f s dis h = record { taken = refl; volume = λ x. refl; own = here; others = λ j n. refl; next_id = refl; next_session = refl; epoch = refl; most = refl }
 all-carry c (op ∷ ops) d sl here opened f s dis h =
     let e : Durable = carried_out c op.1 d in
     let sm : Slot = record sl { unspent = less (listed (made op.1)) sl.unspent } in
     let vol : (x : ℕ) → images e.volume x ≡ image_next x (images d.volume x) op.1 = λ x. images-changed op.1 d.volume x s.0 in
     let fit : Fits (images e.volume) (updates_in ops) = λ x. subst (λ i. T (fits_in_turn x i (updates_in ops))) (sym (vol x)) (and_next (not (has_operand x op.1) || fits op.1 x (images d.volume x)) _ (f x)) in
-    let r : Carries c ops e sm = all-carry c ops e sm (own-next c op.1 d sl here opened) opened fit s.1 (left-distinct (made op.1) (makes (updates_in ops)) dis) (left-in (made op.1) (makes (updates_in ops)) sl.unspent dis h) in
+    let r : Carries c ops e sm = all-carry c ops e sm (own-next c op.1 d sl here opened) opened fit s.1 (left-distinct (made op.1) (made_by (updates_in ops)) dis) (left-in (made op.1) (made_by (updates_in ops)) sl.unspent dis h) in
     record {
       taken = ap (λ z. elim z as (λ w. Result Durable RecordFault) [ Some fault ↦ Err fault | None ↦ operations c ops e ])
-          (no-fault c op.1 d sl here opened op.0 (more-each (λ x. T (member x sl.unspent)) (made op.1) (makes (updates_in ops)) h) (fits-here (images d.volume) op.1 (updates_in ops) f)) ∙ r.taken;
+          (no-fault c op.1 d sl here opened op.0 (more-each (λ x. T (member x sl.unspent)) (made op.1) (made_by (updates_in ops)) h) (fits-here (images d.volume) op.1 (updates_in ops) f)) ∙ r.taken;
       volume = λ x. r.volume x ∙ ap (λ i. image_after x i (updates_in ops)) (vol x);
-      own = r.own ∙ ap (λ xs. Some (record sl { unspent = xs })) (less-listed (made op.1) (makes (updates_in ops)) sl.unspent);
+      own = r.own ∙ ap (λ xs. Some (record sl { unspent = xs })) (less-listed (made op.1) (made_by (updates_in ops)) sl.unspent);
       others = λ j n. r.others j n ∙ slot-other (record d { volume = changed op.1 d.volume }) c j (spent (made op.1) (slot d c)) n;
       next_id = r.next_id;
       next_session = r.next_session;

@@ -16,7 +16,7 @@ use Rattle.ec_wire.specs.declared.msg.Msg.{Msg}
 use Rattle.ec_wire.specs.declared.msg.Msg.TheVariants.{Want, Back, Flush, Room, Claim, Bye, Opened, Grant, Recall, Ids, Restarted}
 use Rattle.ec_cache.specs.Cache.{last}
 use Rattle.ec_coherence.specs.System.{Eff, recorded, eff_from}
-use Rattle.ec_coherence.specs.Tokens.{Tables, View, Side, InSession, eff, eff_hold, Apart, Below, is_hidden, Fits, Passed, OfNow, IdsFit, IsEarlier, Noted, TablesAgree, TokensAgree, AreApart}
+use Rattle.ec_coherence.specs.Tokens.{Tables, View, Side, InSession, eff, eff_hold, Apart, Below, is_hidden, Fits, Passed, OfNow, IdsFit, IsEarlier, Noted, TablesAgree, TokensAgree, WantsAreDistinct}
 use Rattle.ec_coherence.proofs.Tables.{by-session, each-map, held-mode, clash-turn, same_some}
 use Rattle.ec_base.proofs.Options.{none_some}
 use Rattle.ec_base.proofs.Numbers.{equal}
@@ -52,7 +52,7 @@ pub record Own (w : View) (v : Tables) (ts : tokens.Tokens) (qs : List want.Want
   pub number : v.number ≤ n
   pub grown : (t : ℕ) → T (is_some (at t v.recorded)) → T (is_some (at t rs))
   pub wants : Each (Noted (over (changed ts qs cl n rs) w) (changed ts qs cl n rs)) qs
-  pub distinct : AreApart qs
+  pub distinct : WantsAreDistinct qs
   pub unrecorded : (x : ℕ) → at s rs ≡ None → T (is_hidden w s x) → tokens.token ts s x ≡ None
   pub recorded : (t m : ℕ) → at t rs ≡ Some m → (at t v.recorded ≡ Some m) ⊎
       T (member t cl) × (m ≤ n) × ((got : ℕ) → got + 1 ≡ w.grants t → InSession w t (IdsFit (over (changed ts qs cl n rs) w) t w.epoch got m (w.first t)))

@@ -19,9 +19,9 @@ use Rattle.ec_base.proofs.Bools.{left as and_first, right as and_next, no-longer
 use Rattle.ec_base.proofs.Numbers.{same-self as same}
 use Rattle.ec_base.proofs.Options.{none_some}
 
-none-pass : (p : tokens.Holder → Bool) (hs : List tokens.Holder) → ((g : tokens.Holder) → Contains hs g → p g ≡ false) → tokens.first (filter p hs) ≡ None
+none-pass : (p : tokens.Holder → Bool) (hs : List tokens.Holder) → ((g : tokens.Holder) → Contains hs g → p g ≡ false) → tokens.first_holder (filter p hs) ≡ None
 none-pass p [] f = refl
-none-pass p (g ∷ gs) f = ap (λ b. tokens.first (cond b (g ∷ filter p gs) (filter p gs))) (f g (0, omega arith, refl)) ∙ none-pass p gs (λ j c. f j (suc c.0, omega (arith, c.1), c.2))
+none-pass p (g ∷ gs) f = ap (λ b. tokens.first_holder (cond b (g ∷ filter p gs) (filter p gs))) (f g (0, omega arith, refl)) ∙ none-pass p gs (λ j c. f j (suc c.0, omega (arith, c.1), c.2))
 
 at-cons : (j : ℕ) (e : ℕ × Hold) (es : Table Hold) → at j (e ∷ es) ≡ cond (j == e.0) (Some e.1) (at j es)
 at-cons j e es = sym (ap (λ b. cond b (Some e.1) (at j es)) (unsigned_ties j e.0))

@@ -19,7 +19,7 @@ use Rattle.ec_coherence.specs.Steps.{call_of, calls_after, doing_in, less_call, 
 use Rattle.ec_coherence.proofs.Acting.{sends-more}
 use Rattle.ec_coherence.proofs.ClerkIn.{start-same}
 use Rattle.ec_coherence.specs.CommitLaws.{AllAgree}
-use Rattle.ec_coherence.specs.StandLaws.{AreSent, ClerkStands, GoesOn, sending}
+use Rattle.ec_coherence.specs.StandLaws.{AreSent, ClerkStands, SessionGoesOn, sending}
 use Rattle.ec_coherence.proofs.GoesOn.{changes-stand}
 use Rattle.ec_base.proofs.Numbers.{equal}
 
@@ -86,7 +86,7 @@ module _ (g : System) (all : AllAgree g) (c b : ℕ) (k : Clerk) (runs : g.runni
   begins-stand = (record { runs = runs; shown = sym (append-nil g.ghost.shown); invariant = begun-all.0 }, begun-all.1, begun-all.2, begun-all.3)
 
 -- It goes on in its session.
-module _ (g : System) (c b s : ℕ) (d : Doing) (γ : Ghost) (st : ClerkStands g c b d γ) (age : Age) (owns : γ.owner s ≡ Some (c, age)) (at : age.boot ≡ b) (session : d.clerk.session ≡ Some s) (now : Clerk) (on : GoesOn d.clerk now) (ms : List Msg) where
+module _ (g : System) (c b s : ℕ) (d : Doing) (γ : Ghost) (st : ClerkStands g c b d γ) (age : Age) (owns : γ.owner s ≡ Some (c, age)) (at : age.boot ≡ b) (session : d.clerk.session ≡ Some s) (now : Clerk) (on : SessionGoesOn d.clerk now) (ms : List Msg) where
   abbrev here : System
   here = doing_in c b d γ g
 

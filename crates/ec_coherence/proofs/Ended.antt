@@ -17,7 +17,7 @@ use Rattle.ec_wire.specs.declared.msg.Msg.{Msg}
 use Rattle.ec_wire.specs.declared.msg.Msg.TheVariants.{Want, Back, Flush, Room, Claim, Bye, Opened, Grant, Recall, Ids, Restarted}
 use Rattle.ec_cache.specs.Cache.{last}
 use Rattle.ec_coherence.specs.System.{Eff, eff_from}
-use Rattle.ec_coherence.specs.Tokens.{Tables, View, Side, eff, eff_hold, Apart, Below, IdsFit, IsEarlier, OfNow, NotedFits, Noted, is_hidden, Fits, AreApart, TablesAgree, TokensAgree}
+use Rattle.ec_coherence.specs.Tokens.{Tables, View, Side, eff, eff_hold, Apart, Below, IdsFit, IsEarlier, OfNow, NotedFits, Noted, is_hidden, Fits, WantsAreDistinct, TablesAgree, TokensAgree}
 use Rattle.ec_coherence.proofs.Changed.{over}
 use Rattle.ec_coherence.proofs.Tables.{token-dropped, at-without, each-map, differs, fails, by-session}
 use Rattle.ec_base.proofs.Numbers.{same-self as same, equal}
@@ -184,11 +184,11 @@ module _ (w : View) (v : Tables) (s : ℕ) (op : ℕ → Bool) (sn : ℕ → ℕ
       go true r = (f.0, r)
       go false r = r
 
-  apart-left : (p : want.Want → Bool) (qs : List want.Want) → AreApart qs → AreApart (filter p qs)
+  apart-left : (p : want.Want → Bool) (qs : List want.Want) → WantsAreDistinct qs → WantsAreDistinct (filter p qs)
   apart-left p [] d = tt
   apart-left p (q ∷ qs) d = go (p q) (apart-left p qs d.1)
     where
-      go : (b : Bool) → AreApart (filter p qs) → AreApart (cond b (q ∷ filter p qs) (filter p qs))
+      go : (b : Bool) → WantsAreDistinct (filter p qs) → WantsAreDistinct (cond b (q ∷ filter p qs) (filter p qs))
       go true r = (each-left p (λ r. T (not (is_of q.session q.obj r))) qs d.0, r)
       go false r = r
 

@@ -12,7 +12,7 @@ use Rattle.ec_coherence.specs.System.{System, Ghost}
 use Rattle.ec_coherence.specs.Log.{LogsAgree}
 use Rattle.ec_coherence.specs.Images.{ImagesAgree}
 use Rattle.ec_coherence.specs.Steps.{serving_in, end_session, Under}
-use Rattle.ec_coherence.specs.BatchLaws.{Agrees}
+use Rattle.ec_coherence.specs.BatchLaws.{BatchFacts}
 use Rattle.ec_coherence.proofs.Ending as ending
 use Rattle.ec_coherence.proofs.Finish.{d', ended_step, sm, later, finish-is, finish-sessions, finish-tokens, slot-now}
 use Rattle.ec_coherence.proofs.Tables.{same_some}
@@ -60,8 +60,8 @@ module _ (g : System) (γ : Ghost) (t : Serving) (u : Under g t γ) (c : ℕ) (s
   finish-images = subst (λ p. ImagesAgree (record behind { pool = p })) (append_assoc g.pool t.sent told)
       (ending.end-images here u.invariant.sessions u.invariant.tokens u.invariant.logs u.invariant.images c sl.session sl in_slot refl opened (d' g γ t u c sl in_slot opened) behind.server told refl refl others closed)
 
-  pub finish-agrees : Agrees (serving_in (finish c sl t) (end_session here sl.session γ) g)
-  finish-agrees = subst (λ z. Agrees (serving_in z (end_session here sl.session γ) g)) (sym (finish-is g γ t u c sl in_slot opened)) (record {
+  pub finish-agrees : BatchFacts (serving_in (finish c sl t) (end_session here sl.session γ) g)
+  finish-agrees = subst (λ z. BatchFacts (serving_in z (end_session here sl.session γ) g)) (sym (finish-is g γ t u c sl in_slot opened)) (record {
     sessions = finish-sessions g γ t u c sl in_slot opened;
     tokens = finish-tokens g γ t u c sl in_slot opened;
     logs = finish-logs;

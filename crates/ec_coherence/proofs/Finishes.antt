@@ -23,13 +23,13 @@ use Rattle.ec_durable.specs.declared.record.RecordFault.TheVariants.{NoSession}
 use Rattle.ec_protocol.specs.Server.{Serving, finish, tell_ended}
 use Rattle.ec_coherence.specs.System.{System, Ghost, Eff, eff_from, is_of}
 use Rattle.ec_coherence.specs.Tokens.{eff, view}
-use Rattle.ec_coherence.specs.BatchLaws.{Agrees}
+use Rattle.ec_coherence.specs.BatchLaws.{BatchFacts}
 use Rattle.ec_coherence.specs.Steps.{end_lines, end_session, ended_line, runs, serving_in, Under}
 use Rattle.ec_coherence.proofs.Finish as finishing
 use Rattle.ec_coherence.proofs.FinishAgrees as finished
 use Rattle.ec_coherence.proofs.Lists.{each-fewer}
 use Rattle.ec_coherence.proofs.Tables.{differ, same_some}
-use Rattle.ec_coherence.specs.CommitLaws.{AllAgree, Stands}
+use Rattle.ec_coherence.specs.CommitLaws.{AllAgree, StepStands as Stands}
 use Rattle.ec_coherence.specs.Starts.{IsOfStart}
 use Rattle.ec_coherence.proofs.Given.{before-lines, before-record, ended-unclaimed}
 use Rattle.ec_coherence.proofs.Shown.{lines-agree}
@@ -145,8 +145,8 @@ module _ (g : System) (γ : Ghost) (t : Serving) (st : Stands g t γ) (none : t.
       go false e = e
 
   -- All facts, with the messages that are sent.
-  module _ (ms : List (ℕ × Msg)) (agrees : Agrees (serving_in (sending ms) γ' g)) (quiet : AreQuiet g ms) where
-    lined : Agrees (serving_in (sending ms) γ'' g)
+  module _ (ms : List (ℕ × Msg)) (agrees : BatchFacts (serving_in (sending ms) γ' g)) (quiet : AreQuiet g ms) where
+    lined : BatchFacts (serving_in (sending ms) γ'' g)
     lined = lines-agree (serving_in (sending ms) γ' g) γ''.shown γ''.history γ.fresh agrees
 
     fits : Fits g.origin (updates γ'.kept)
@@ -174,7 +174,7 @@ module _ (g : System) (γ : Ghost) (t : Serving) (st : Stands g t γ) (none : t.
   told = tell_ended c sl step'
 
   told-all : AllAgree (serving_in told γ'' g)
-  told-all = ended-all told.sent (subst (λ z. Agrees (serving_in z γ' g)) (finishing.finish-is g γ t u c sl in_slot opened) (finished.finish-agrees g γ t u c sl in_slot opened))
+  told-all = ended-all told.sent (subst (λ z. BatchFacts (serving_in z γ' g)) (finishing.finish-is g γ t u c sl in_slot opened) (finished.finish-agrees g γ t u c sl in_slot opened))
       (quiet-with g γ t st.3 c (Ended sl.session sl.window.low sl.window.mask) tt)
 
   told-stands : Stands g told γ''

@@ -26,7 +26,7 @@ use Rattle.ec_coherence.specs.Tokens.{TokensAgree, view, eff, tables_of}
 use Rattle.ec_coherence.specs.Log.{LogsAgree, mine}
 use Rattle.ec_coherence.specs.Images.{ImagesAgree}
 use Rattle.ec_coherence.specs.Steps.{serving_in, keep_batch, Under}
-use Rattle.ec_coherence.specs.BatchLaws.{Agrees}
+use Rattle.ec_coherence.specs.BatchLaws.{BatchFacts}
 use Rattle.ec_coherence.proofs.Carried.{all_carried, updates_in, less}
 use Rattle.ec_coherence.proofs.Committed.{is-new}
 use Rattle.ec_coherence.proofs.Committing.{Commits, commits, committed, within}
@@ -68,7 +68,7 @@ module _ (g : System) (γ : Ghost) (t : Serving) (u : Under g t γ) (c : ℕ) (s
   now = committed here u.invariant.sessions u.invariant.tokens u.invariant.logs u.invariant.images c s sl k in_slot refl opened there b ns under unmarked
 
   abbrev pub newslot : Slot
-  newslot = record sl { window = after_mark sl.window b; unspent = less (Rattle.ec_coherence.specs.Log.makes (updates_in ops)) sl.unspent }
+  newslot = record sl { window = after_mark sl.window b; unspent = less (Rattle.ec_coherence.specs.Log.made_by (updates_in ops)) sl.unspent }
 
   abbrev γ' : Ghost
   γ' = keep_batch c (sl.age).boot (keys ops) γ
@@ -163,8 +163,8 @@ module _ (g : System) (γ : Ghost) (t : Serving) (u : Under g t γ) (c : ℕ) (s
   flush-images = subst (λ p. ImagesAgree (record (behind now) { pool = p })) (append_assoc g.pool t.sent kept)
       (commit-images here u.invariant.sessions u.invariant.tokens u.invariant.logs u.invariant.images c s sl k in_slot refl opened there b ns under unmarked (behind now).server now.epoch)
 
-  pub flush-agrees : Agrees (serving_in (flush c s b ops sl t) γ' g)
-  flush-agrees = subst (λ z. Agrees (serving_in z γ' g)) (sym (flushes here u.invariant.sessions u.invariant.tokens u.invariant.logs u.invariant.images c s sl k in_slot refl opened there b ns under unmarked t refl claimed)) (record {
+  pub flush-agrees : BatchFacts (serving_in (flush c s b ops sl t) γ' g)
+  flush-agrees = subst (λ z. BatchFacts (serving_in z γ' g)) (sym (flushes here u.invariant.sessions u.invariant.tokens u.invariant.logs u.invariant.images c s sl k in_slot refl opened there b ns under unmarked t refl claimed)) (record {
     sessions = subst (λ d. SessionsAgree (behind d)) now-is flush-sessions;
     tokens = subst (λ d. TokensAgree (view (behind d))) now-is flush-tokens;
     logs = flush-logs;

@@ -31,7 +31,7 @@ use Rattle.ec_coherence.specs.Tokens.{InSession, TokensAgree, view, side_in}
 use Rattle.ec_coherence.specs.Log.{LogsAgree}
 use Rattle.ec_coherence.specs.Images.{ImagesAgree}
 use Rattle.ec_coherence.specs.Steps.{serving_in, give_ids, Under}
-use Rattle.ec_coherence.specs.BatchLaws.{Agrees}
+use Rattle.ec_coherence.specs.BatchLaws.{BatchFacts}
 use Rattle.ec_coherence.proofs.Carried.{gone-is}
 use Rattle.ec_coherence.proofs.GiveIds.{give-ids-tokens}
 use Rattle.ec_coherence.proofs.GivenIds.{given-logs, given-images}
@@ -201,6 +201,6 @@ module _ (g : System) (γ : Ghost) (t : Serving) (u : Under g t γ) (c : ℕ) (s
   given-images-now got = subst (λ p. ImagesAgree (record (behind got) { pool = p })) (append_assoc g.pool t.sent (message got))
       (given-images here u.invariant.sessions u.invariant.tokens u.invariant.logs u.invariant.images c s sl in_slot refl opened taken got-now d' (behind got).server (message got) refl refl others own)
 
-  pub give-agrees : Agrees (serving_in (grant_ids c s sl.grants ask t) γ' g)
-  give-agrees = subst (λ z. Agrees (serving_in z γ' g)) (sym grant-is) (subst (λ got. Agrees (behind got)) (sym granted)
+  pub give-agrees : BatchFacts (serving_in (grant_ids c s sl.grants ask t) γ' g)
+  give-agrees = subst (λ z. BatchFacts (serving_in z γ' g)) (sym grant-is) (subst (λ got. BatchFacts (behind got)) (sym granted)
       (record { sessions = given-sessions (γ.grants s); tokens = given-tokens; logs = given-logs-now (γ.grants s); images = given-images-now (γ.grants s) }))

@@ -18,7 +18,7 @@ use Rattle.ec_coherence.specs.Tokens.{eff, view}
 use Rattle.ec_coherence.specs.Events.{EventsAgree}
 use Rattle.ec_coherence.specs.Invariant.{Invariant}
 use Rattle.ec_coherence.specs.Steps.{Committed, give_ids, record_lines, serving_in, Under}
-use Rattle.ec_coherence.specs.BatchLaws.{Agrees}
+use Rattle.ec_coherence.specs.BatchLaws.{BatchFacts}
 use Rattle.ec_coherence.proofs.GiveAgrees as giving
 use Rattle.ec_coherence.proofs.GiveAgrees.{give-agrees}
 use Rattle.ec_coherence.proofs.OpenSlots.{at-open, open-at}
@@ -100,8 +100,8 @@ module _ (g : System) (γ : Ghost) (t : Serving) (u : Under g t γ) (none : t.re
   events : EventsAgree behind
   events = framed-events here now.server.durable (Some now.server) behind.pool γ.owner γ.taken γ'.grants γ'.first u.invariant.events refl (λ s o. inl (was-open s o, refl)) same-tokens (λ s o p. p) u.invariant.images.unopened
 
-  agrees : Agrees behind
-  agrees = subst (λ z. Agrees (serving_in z γ' g)) (giving.grant-is g γ t u c sl in_slot opened k there claimed taken current ask room enough small)
+  agrees : BatchFacts behind
+  agrees = subst (λ z. BatchFacts (serving_in z γ' g)) (giving.grant-is g γ t u c sl in_slot opened k there claimed taken current ask room enough small)
       (give-agrees g γ t u c sl in_slot opened k there claimed taken current ask room enough small)
 
   given : Under g now γ'

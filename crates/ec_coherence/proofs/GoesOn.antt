@@ -26,11 +26,11 @@ use Rattle.ec_coherence.proofs.Tables.{same_some}
 use Rattle.ec_coherence.specs.CommitLaws.{AllAgree}
 use Rattle.ec_coherence.specs.Starts.{Greets, StartsAgree}
 use Rattle.ec_coherence.specs.Watches.{WatchesAgree}
-use Rattle.ec_coherence.specs.StandLaws.{AreSent, GoesOn}
+use Rattle.ec_coherence.specs.StandLaws.{AreSent, SessionGoesOn}
 use Rattle.ec_base.proofs.Options.{none_some}
 use Rattle.ec_base.proofs.Numbers.{equal}
 
-module _ (g : System) (all : AllAgree g) (c s : ℕ) (age : Age) (k now : Clerk) (in-it : IsInIt g c s age k) (on : GoesOn k now) (calls : Calls) (ms : List (ℕ × Msg)) (sent : AreSent g ms) where
+module _ (g : System) (all : AllAgree g) (c s : ℕ) (age : Age) (k now : Clerk) (in-it : IsInIt g c s age k) (on : SessionGoesOn k now) (calls : Calls) (ms : List (ℕ × Msg)) (sent : AreSent g ms) where
   abbrev b : ℕ
   b = age.boot
 

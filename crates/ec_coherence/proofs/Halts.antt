@@ -19,7 +19,7 @@ use Rattle.ec_coherence.specs.Steps.{Under}
 use Rattle.ec_coherence.proofs.Lists.{each-more}
 use Rattle.ec_coherence.proofs.Replies.{tell-all-stands}
 use Rattle.ec_coherence.proofs.Restart.{started-agrees, stopped-agrees}
-use Rattle.ec_coherence.specs.CommitLaws.{AllAgree, Stands}
+use Rattle.ec_coherence.specs.CommitLaws.{AllAgree, StepStands}
 use Rattle.ec_coherence.specs.Starts.{Greets}
 use Rattle.ec_coherence.proofs.Starting.{AreQuiet}
 use Rattle.ec_coherence.proofs.Watched.{watches-read}
@@ -92,7 +92,7 @@ module _ (g : System) (all : AllAgree g) (down : g.server ≡ None) (sure : g.un
   abbrev told : Serving
   told = tell_all 0 g.durable.sessions begun
 
-  told-stands : Stands g told g.ghost
+  told-stands : StepStands g told g.ghost
   told-stands = (
     tell-all-stands g g.ghost g.durable.sessions 0 begun begun-stands (λ k. ap (λ z. slot_at g.durable.sessions z) (none k)),
     watches-read g told.server.durable (Some told.server) (g.pool ++ told.sent) (ap (λ v. v.durable.sessions) (all-server g 0 g.durable.sessions begun)) all.1,
@@ -124,7 +124,7 @@ module _ (g : System) (all : AllAgree g) (down : g.server ≡ None) (sure : g.un
       ]
 
   abbrev Starts : Serving → Type 0
-  Starts f = T (is_some f.spent) ⊎ ((γ : Ghost) × Stands g f γ)
+  Starts f = T (is_some f.spent) ⊎ ((γ : Ghost) × StepStands g f γ)
 
   pub start-stands : Starts (start g.durable)
   start-stands = go (nat_le (2 ^ 62) g.durable.epoch)

@@ -35,7 +35,7 @@ use Rattle.ec_coherence.specs.System.{System, Ghost, Eff, clerk_in, with_start, 
 use Rattle.ec_coherence.specs.Sessions.{SessionsAgree}
 use Rattle.ec_coherence.specs.Tokens.{TokensAgree, view, eff, eff_hold, side, side_in, Below, IsWrite}
 use Rattle.ec_coherence.specs.Log as log
-use Rattle.ec_coherence.specs.Log.{Knows, LogAgrees, LogsAgree, HasWrites, IdsAgree, IsNumbered, OfOpen, InSession, mine, numbered, makes, next_of}
+use Rattle.ec_coherence.specs.Log.{Knows, LogAgrees, LogsAgree, HasWrites, IdsAgree, IsNumbered, OfOpen, InSession, mine, numbered, made_by, next_of}
 use Rattle.ec_coherence.specs.Images.{ImagesAgree}
 use Rattle.ec_coherence.proofs.ClerkIn.{owned, was-in, now-in, other-in}
 use Rattle.ec_coherence.proofs.Ids.{in-front, in-back, in-either}
@@ -60,13 +60,13 @@ image-one x i us u = after-append x i us (u ∷ [])
 
 -- Ids go from the clerk's to those of its Makes.
 
-pub more-makes : (us : List Update) (u : Update) → makes (us ++ u ∷ []) ≡ makes us ++ listed (made u)
+pub more-makes : (us : List Update) (u : Update) → made_by (us ++ u ∷ []) ≡ made_by us ++ listed (made u)
 more-makes [] u = none (listed (made u))
   where
     none : (xs : List ℕ) → xs ++ [] ≡ xs
     none [] = refl
     none (x ∷ xs) = ap (λ ys. x ∷ ys) (none xs)
-more-makes (v ∷ us) u = ap (λ xs. listed (made v) ++ xs) (more-makes us u) ∙ assoc (listed (made v)) (makes us) (listed (made u))
+more-makes (v ∷ us) u = ap (λ xs. listed (made v) ++ xs) (more-makes us u) ∙ assoc (listed (made v)) (made_by us) (listed (made u))
   where
     assoc : (xs ys zs : List ℕ) → xs ++ (ys ++ zs) ≡ (xs ++ ys) ++ zs
     assoc [] ys zs = refl
@@ -260,22 +260,22 @@ module _ (g : System) (sa : SessionsAgree g) (ta : TokensAgree (view g)) (lo : L
   abbrev still : List Op
   still = undurable g.ghost s
 
-  still-is : makes (updates (undurable ghost s)) ≡ makes (updates still) ++ listed (made u)
-  still-is = ap (λ os. makes (updates os)) (part-yes (λ o. own o && not (dur o)) (ap (λ b. b && not (dur op)) own-op ∙ ap not new-op)) ∙ ap makes (map-more (λ o. o.update) still (op ∷ [])) ∙ more-makes (updates still) u
+  still-is : made_by (updates (undurable ghost s)) ≡ made_by (updates still) ++ listed (made u)
+  still-is = ap (λ os. made_by (updates os)) (part-yes (λ o. own o && not (dur o)) (ap (λ b. b && not (dur op)) own-op ∙ ap not new-op)) ∙ ap made_by (map-more (λ o. o.update) still (op ∷ [])) ∙ more-makes (updates still) u
 
   ids' : IdsAgree new sl (g.ghost.grants s) (g.ghost.first s) (undurable ghost s)
   ids' = record {
     granted = old.ids.granted;
     last = old.ids.last;
-    distinct_ids = subst (λ z. T (distinct (ids ++ z))) (sym still-is) (ids-distinct (made u) ids (makes (updates still)) (subst (λ z. T (distinct (z ++ makes (updates still)))) ids-are old.ids.distinct_ids));
-    free = subst (λ z. Each (λ x. T (member x sl.unspent)) (ids ++ z)) (sym still-is) (each-member (λ x. T (member x sl.unspent)) (ids ++ (makes (updates still) ++ listed (made u))) (λ x m.
-        each-at (λ y. T (member y sl.unspent)) x ((listed (made u) ++ ids) ++ makes (updates still)) (subst (λ z. Each (λ x. T (member x sl.unspent)) (z ++ makes (updates still))) ids-are old.ids.free) (ids-in (made u) ids (makes (updates still)) x m)));
-    earlier = λ q. subst (λ z. Each (λ x. x < g.ghost.first s) (ids ++ z)) (sym still-is) (each-member (λ x. x < g.ghost.first s) (ids ++ (makes (updates still) ++ listed (made u))) (λ x m.
-        each-at (λ y. y < g.ghost.first s) x ((listed (made u) ++ ids) ++ makes (updates still)) (subst (λ z. Each (λ x. x < g.ghost.first s) (z ++ makes (updates still))) ids-are (old.ids.earlier q)) (ids-in (made u) ids (makes (updates still)) x m)));
+    distinct_ids = subst (λ z. T (distinct (ids ++ z))) (sym still-is) (ids-distinct (made u) ids (made_by (updates still)) (subst (λ z. T (distinct (z ++ made_by (updates still)))) ids-are old.ids.distinct_ids));
+    free = subst (λ z. Each (λ x. T (member x sl.unspent)) (ids ++ z)) (sym still-is) (each-member (λ x. T (member x sl.unspent)) (ids ++ (made_by (updates still) ++ listed (made u))) (λ x m.
+        each-at (λ y. T (member y sl.unspent)) x ((listed (made u) ++ ids) ++ made_by (updates still)) (subst (λ z. Each (λ x. T (member x sl.unspent)) (z ++ made_by (updates still))) ids-are old.ids.free) (ids-in (made u) ids (made_by (updates still)) x m)));
+    earlier = λ q. subst (λ z. Each (λ x. x < g.ghost.first s) (ids ++ z)) (sym still-is) (each-member (λ x. x < g.ghost.first s) (ids ++ (made_by (updates still) ++ listed (made u))) (λ x m.
+        each-at (λ y. y < g.ghost.first s) x ((listed (made u) ++ ids) ++ made_by (updates still)) (subst (λ z. Each (λ x. x < g.ghost.first s) (z ++ made_by (updates still))) ids-are (old.ids.earlier q)) (ids-in (made u) ids (made_by (updates still)) x m)));
     all = subst (λ z. Each (λ x. T (member x (ids ++ z)) ⊎ ((k.got + 1 ≡ g.ghost.grants s) × (g.ghost.first s ≤ x) × (x < g.ghost.first s + 16))) sl.unspent) (sym still-is)
-        (each-turn (λ x. T (member x (k.ids ++ makes (updates still))) ⊎ ((k.got + 1 ≡ g.ghost.grants s) × (g.ghost.first s ≤ x) × (x < g.ghost.first s + 16)))
-        (λ x. T (member x (ids ++ (makes (updates still) ++ listed (made u)))) ⊎ ((k.got + 1 ≡ g.ghost.grants s) × (g.ghost.first s ≤ x) × (x < g.ghost.first s + 16))) sl.unspent
-        (λ x m. elim m [ inl a ↦ inl (in-ids (made u) ids (makes (updates still)) x (subst (λ z. T (member x (z ++ makes (updates still)))) ids-are a)) | inr z ↦ inr z ]) old.ids.all);
+        (each-turn (λ x. T (member x (k.ids ++ made_by (updates still))) ⊎ ((k.got + 1 ≡ g.ghost.grants s) × (g.ghost.first s ≤ x) × (x < g.ghost.first s + 16)))
+        (λ x. T (member x (ids ++ (made_by (updates still) ++ listed (made u)))) ⊎ ((k.got + 1 ≡ g.ghost.grants s) × (g.ghost.first s ≤ x) × (x < g.ghost.first s + 16))) sl.unspent
+        (λ x m. elim m [ inl a ↦ inl (in-ids (made u) ids (made_by (updates still)) x (subst (λ z. T (member x (z ++ made_by (updates still)))) ids-are a)) | inr z ↦ inr z ]) old.ids.all);
   }
 
   -- The other open sessions are of other clerks.

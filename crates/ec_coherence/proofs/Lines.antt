@@ -11,7 +11,7 @@ use Rattle.ec_laws.proofs.More.{watch-step}
 use Rattle.ec_protocol.specs.declared.clerk.Clerk.{Clerk}
 use Rattle.ec_coherence.specs.System.{System}
 use Rattle.ec_coherence.specs.Events.{CutAgrees, EventsAgree}
-use Rattle.ec_coherence.specs.BatchLaws.{Agrees}
+use Rattle.ec_coherence.specs.BatchLaws.{BatchFacts}
 use Rattle.ec_coherence.specs.CommitLaws.{AllAgree}
 use Rattle.ec_coherence.specs.Starts.{StartsAgree}
 use Rattle.ec_coherence.specs.Watches.{WatchesAgree}
@@ -22,7 +22,7 @@ module _ (g : System) (all : AllAgree g) (l : Shown) (plain : (d : ℕ) → is_c
   abbrev h : System
   h = lined g l
 
-  agrees : Agrees h
+  agrees : BatchFacts h
   agrees = lines-agree g (g.ghost.shown ++ l ∷ []) g.ghost.history g.ghost.fresh (let i = all.0 in record { sessions = i.sessions; tokens = i.tokens; logs = i.logs; images = i.images })
 
   watched : (d : ℕ) → watch d (g.ghost.shown ++ l ∷ []) ≡ watch d g.ghost.shown

@@ -15,7 +15,7 @@ use Rattle.ec_wire.specs.Messages.{is_held_mode}
 use Rattle.ec_cache.specs.Cache.{last}
 use Rattle.ec_cache.specs.declared.state.Held.{Held}
 use Rattle.ec_coherence.specs.System.{recorded}
-use Rattle.ec_coherence.specs.Tokens.{Tables, View, Side, InSession, Below, Names, WantFits, HeldBelow, Lacks, NotedFits, Wanted, Noted, AreApart, TokensAgree}
+use Rattle.ec_coherence.specs.Tokens.{Tables, View, Side, InSession, Below, Names, WantFits, HeldBelow, LacksMode, NotedFits, Wanted, Noted, WantsAreDistinct, TokensAgree}
 use Rattle.ec_coherence.proofs.Changed.{over, changed, Own, changed-agrees}
 use Rattle.ec_coherence.proofs.Tables.{each-map, fails}
 use Rattle.ec_coherence.proofs.Was.{was-open, was-known, was-apart, was-below, was-live, was-alone}
@@ -23,7 +23,7 @@ use Rattle.ec_base.proofs.Numbers.{equal}
 
 -- The wants become others, of which each may be granted; one of them, or the one that is noted, is of s.
 module _ (w : View) (v : Tables) (s : ℕ) (qs : List want.Want) (agree : TokensAgree (over v w)) (claimed : T (member s v.claimed)) (taken : T (w.taken s))
-    (wants : Each (Noted (over v w) v) qs) (distinct : AreApart qs) where
+    (wants : Each (Noted (over v w) v) qs) (distinct : WantsAreDistinct qs) where
   own : Own w v v.tokens qs v.claimed v.number v.recorded s
   own = record {
     claimed = claimed;
@@ -70,7 +70,7 @@ noted-stronger : (c d : Hold) (o : Option Token) (z : Option Held) (l : ℕ) →
 noted-stronger c d None z l f = f
 noted-stronger c d (Some t) z l f = (f.0, go z f.1)
   where
-    go : (z : Option Held) → Lacks z t.number d → Lacks z t.number (stronger c d)
+    go : (z : Option Held) → LacksMode z t.number d → LacksMode z t.number (stronger c d)
     go None f = f
     go (Some k) f = (f.0, below-stronger (rank k.hold) 0 0 c d f.1)
 
@@ -109,7 +109,7 @@ module _ (w : View) (v : Tables) (s x : ℕ) (h : Hold) where
               (omega arith, (omega arith, b (omega arith)))
 
 -- Keys stay distinct.
-pub noted-apart : (s x : ℕ) (h : Hold) (qs : List want.Want) → AreApart qs → AreApart (noted s x h qs)
+pub noted-apart : (s x : ℕ) (h : Hold) (qs : List want.Want) → WantsAreDistinct qs → WantsAreDistinct (noted s x h qs)
 noted-apart s x h [] d = (tt, tt)
 noted-apart s x h (q ∷ qs) d = go (is_of s x q) refl (noted-apart s x h qs d.1) (still qs d.0)
   where
@@ -127,8 +127,8 @@ noted-apart s x h (q ∷ qs) d = go (is_of s x q) refl (noted-apart s x h qs d.1
         by true g = f
         by false g = (f.0, g)
 
-    go : (b : Bool) → is_of s x q ≡ b → AreApart (noted s x h qs) → (is_of s x q ≡ false → Each (λ r. T (not (is_of q.session q.obj r))) (noted s x h qs))
-        → AreApart (cond b (record q { hold = stronger q.hold h; told = [] } ∷ qs) (q ∷ noted s x h qs))
+    go : (b : Bool) → is_of s x q ≡ b → WantsAreDistinct (noted s x h qs) → (is_of s x q ≡ false → Each (λ r. T (not (is_of q.session q.obj r))) (noted s x h qs))
+        → WantsAreDistinct (cond b (record q { hold = stronger q.hold h; told = [] } ∷ qs) (q ∷ noted s x h qs))
     go true e r f = d
     go false e r f = (f e, r)
 

@@ -26,7 +26,7 @@ use Rattle.ec_coherence.specs.Tokens.{TokensAgree, view, tables_of}
 use Rattle.ec_coherence.specs.Log.{LogsAgree}
 use Rattle.ec_coherence.specs.Images.{ImagesAgree}
 use Rattle.ec_coherence.specs.Steps.{serving_in, open_session, Under}
-use Rattle.ec_coherence.specs.BatchLaws.{Agrees}
+use Rattle.ec_coherence.specs.BatchLaws.{BatchFacts}
 use Rattle.ec_coherence.proofs.NewSession.{new-logs, new-images}
 use Rattle.ec_coherence.proofs.Opens.{open_step, d', no-owner, open-tokens, open-sessions, room}
 use Rattle.ec_coherence.proofs.Said.{said-agrees}
@@ -131,5 +131,5 @@ module _ (g : System) (γ : Ghost) (t : Serving) (u : Under g t γ) (c : ℕ) (a
   opened-images = subst (λ p. ImagesAgree (record behind { pool = p })) (append_assoc g.pool t.sent told)
       (new-images here u.invariant.sessions u.invariant.logs u.invariant.images c s age fresh free d own others refl refl behind.server told)
 
-  pub open-agrees : Agrees (serving_in (open_new c age None t) γ' g)
-  open-agrees = subst (λ z. Agrees (serving_in z γ' g)) (sym open-is) (record { sessions = opened-sessions; tokens = opened-tokens; logs = opened-logs; images = opened-images })
+  pub open-agrees : BatchFacts (serving_in (open_new c age None t) γ' g)
+  open-agrees = subst (λ z. BatchFacts (serving_in z γ' g)) (sym open-is) (record { sessions = opened-sessions; tokens = opened-tokens; logs = opened-logs; images = opened-images })

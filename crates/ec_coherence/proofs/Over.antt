@@ -22,7 +22,7 @@ use Rattle.ec_coherence.specs.Steps.{open_session, serving_in}
 use Rattle.ec_coherence.proofs.Finish as finishing
 use Rattle.ec_coherence.proofs.OpenAgrees as opening
 use Rattle.ec_coherence.proofs.Tables.{same_some}
-use Rattle.ec_coherence.specs.CommitLaws.{AllAgree, Stands}
+use Rattle.ec_coherence.specs.CommitLaws.{AllAgree, StepStands}
 use Rattle.ec_coherence.proofs.Given.{before-record}
 use Rattle.ec_coherence.proofs.SessionCommits.{open-stands, open-starts, open-watches}
 use Rattle.ec_coherence.proofs.Taking.{begins}
@@ -32,7 +32,7 @@ use Rattle.ec_base.proofs.Numbers.{same-self as same, below}
 use Rattle.ec_coherence.proofs.OpenOver.{twice}
 use Rattle.ec_base.proofs.Bools.{is-true}
 
-module _ (g : System) (γ : Ghost) (t : Serving) (st : Stands g t γ) (none : t.rec ≡ None) (c : ℕ) (sl : Slot) (in_slot : slot t.server.durable c ≡ Some sl) (opened : T sl.is_open)
+module _ (g : System) (γ : Ghost) (t : Serving) (st : StepStands g t γ) (none : t.rec ≡ None) (c : ℕ) (sl : Slot) (in_slot : slot t.server.durable c ≡ Some sl) (opened : T sl.is_open)
     (age : Age) (within : c < 16) (greater : T (is_older sl.age age)) (reached : IsReached (serving_in t γ g) c age) (above : g.first_boot c < age.boot) (small : nat_le last_counter t.server.durable.next_session ≡ false) where
   abbrev here : System
   here = serving_in t γ g
@@ -57,7 +57,7 @@ module _ (g : System) (γ : Ghost) (t : Serving) (st : Stands g t γ) (none : t.
   abbrev anew : Serving
   anew = serving between.server
 
-  begun : Stands midst anew γ-between
+  begun : StepStands midst anew γ-between
   begun = begins midst between.server all refl
 
   is-closed : (so : Slot) → slot between.server.durable c ≡ Some so → record sl { is_open = false; unspent = [] } ≡ so
@@ -73,7 +73,7 @@ module _ (g : System) (γ : Ghost) (t : Serving) (st : Stands g t γ) (none : t.
   γ' = open_session c age s γ-between
 
   -- it opens the new one
-  opens : Stands midst (open_new c age None anew) γ'
+  opens : StepStands midst (open_new c age None anew) γ'
   opens = (
     open-stands midst γ-between anew begun.0 refl c age within idle older reached small,
     open-watches midst γ-between anew begun.0 refl c age within idle older reached small begun.1,
@@ -138,7 +138,7 @@ module _ (g : System) (γ : Ghost) (t : Serving) (st : Stands g t γ) (none : t.
     | false ↦ elim (step (record_of.Open c age s) t.server.durable) as (λ z. Serving) [ Ok e ↦ tell_opened c age s (Some sl.session) (record t { server = record (t.server) { durable = e }; rec = Some (record_of.Open c age s) }) | Err f ↦ t ]
   ]) small ∙ ap (λ r. elim r as (λ z. Serving) [ Ok e ↦ tell_opened c age s (Some sl.session) (record t { server = record (t.server) { durable = e }; rec = Some (record_of.Open c age s) }) | Err f ↦ t ]) steps
 
-  done-stands : Stands g done γ'
+  done-stands : StepStands g done γ'
   done-stands = (
     record { committed = subst (λ e. step (record_of.Open c age s) e ≡ Ok d) (before-record g γ t st.0 none) steps; shown = finishes.lines-are g γ t st none c sl in_slot opened; invariant = over-all.0 },
     over-all.1,
@@ -146,8 +146,8 @@ module _ (g : System) (γ : Ghost) (t : Serving) (st : Stands g t γ) (none : t.
     over-all.3,
   )
 
-  pub over-stands : Stands g (open_new c age (Some sl.session) t) γ'
-  over-stands = subst (λ z. Stands g z γ') (sym open-is) done-stands
+  pub over-stands : StepStands g (open_new c age (Some sl.session) t) γ'
+  over-stands = subst (λ z. StepStands g z γ') (sym open-is) done-stands
 
   pub over-spends : (open_new c age (Some sl.session) t).spent ≡ t.spent
   over-spends = ap (λ z. z.spent) open-is

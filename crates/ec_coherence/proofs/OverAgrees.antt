@@ -26,7 +26,7 @@ use Rattle.ec_coherence.specs.Tokens.{TokensAgree, view, tables_of}
 use Rattle.ec_coherence.specs.Log.{LogsAgree}
 use Rattle.ec_coherence.specs.Images.{ImagesAgree}
 use Rattle.ec_coherence.specs.Steps.{serving_in, Under}
-use Rattle.ec_coherence.specs.BatchLaws.{Agrees}
+use Rattle.ec_coherence.specs.BatchLaws.{BatchFacts}
 use Rattle.ec_coherence.proofs.Finish as finish
 use Rattle.ec_coherence.proofs.FinishAgrees as finished
 use Rattle.ec_coherence.proofs.NewSession.{new-logs, new-images}
@@ -124,5 +124,5 @@ module _ (g : System) (γ : Ghost) (t : Serving) (u : Under g t γ) (c : ℕ) (s
   opened-images = subst (λ p. ImagesAgree (record behind { pool = p })) (append_assoc g.pool t.sent told)
       (new-images midst (finish.ended-sessions g γ t u c sl in_slot opened) (finished.between-logs g γ t u c sl in_slot opened) (finished.between-images g γ t u c sl in_slot opened) c s age fresh free d own others refl refl behind.server told)
 
-  pub over-agrees : Agrees (serving_in (open_new c age (Some sl.session) t) γ' g)
-  over-agrees = subst (λ z. Agrees (serving_in z γ' g)) (sym open-is) (record { sessions = opened-sessions; tokens = opened-tokens; logs = opened-logs; images = opened-images })
+  pub over-agrees : BatchFacts (serving_in (open_new c age (Some sl.session) t) γ' g)
+  over-agrees = subst (λ z. BatchFacts (serving_in z γ' g)) (sym open-is) (record { sessions = opened-sessions; tokens = opened-tokens; logs = opened-logs; images = opened-images })

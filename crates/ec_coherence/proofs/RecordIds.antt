@@ -27,11 +27,11 @@ use Rattle.ec_base.proofs.Bools.{not-both as refutes, no-longer as is-false, is-
 
 -- Where no other session has a token, nothing conflicts.
 
-none-pass : (p : tokens.Holder → Bool) (hs : List tokens.Holder) → ((g : tokens.Holder) → Contains hs g → p g ≡ false) → is_none (tokens.first (filter p hs)) ≡ true
+none-pass : (p : tokens.Holder → Bool) (hs : List tokens.Holder) → ((g : tokens.Holder) → Contains hs g → p g ≡ false) → is_none (tokens.first_holder (filter p hs)) ≡ true
 none-pass p [] f = refl
 none-pass p (g ∷ gs) f = go (p g) (f g (0, omega arith, refl)) (none-pass p gs (λ j c. f j (suc c.0, omega (arith, c.1), c.2)))
   where
-    go : (b : Bool) → b ≡ false → is_none (tokens.first (filter p gs)) ≡ true → is_none (tokens.first (cond b (g ∷ filter p gs) (filter p gs))) ≡ true
+    go : (b : Bool) → b ≡ false → is_none (tokens.first_holder (filter p gs)) ≡ true → is_none (tokens.first_holder (cond b (g ∷ filter p gs) (filter p gs))) ≡ true
     go true e r = absurd (cc)
     go false e r = r
 

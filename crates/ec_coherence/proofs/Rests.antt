@@ -11,18 +11,18 @@ use Rattle.ec_coherence.specs.System.{System, clerk_in, undurable}
 use Rattle.ec_coherence.specs.Tokens as tokens
 use Rattle.ec_coherence.specs.Tokens.{TokensAgree, side, view}
 use Rattle.ec_coherence.specs.Log as log
-use Rattle.ec_coherence.specs.Log.{IdsAgree, makes}
+use Rattle.ec_coherence.specs.Log.{IdsAgree, made_by}
 use Rattle.ec_coherence.specs.ChangeLaws.{Calls, IsInIt, LogsAndImages, with_clerk}
 use Rattle.ec_coherence.proofs.ClerkIn.{was-in}
 use Rattle.ec_coherence.proofs.HeldChange as held
 use Rattle.ec_coherence.proofs.Sends.{pool-agrees}
 use Rattle.ec_coherence.proofs.Lists.{each-more}
 use Rattle.ec_coherence.specs.CommitLaws.{AllAgree}
-use Rattle.ec_coherence.specs.StandLaws.{AreSent, GoesOn}
+use Rattle.ec_coherence.specs.StandLaws.{AreSent, SessionGoesOn}
 use Rattle.ec_coherence.proofs.GoesOn.{changes-stand}
 use Rattle.ec_coherence.proofs.Same.{view-with}
 
-module _ (g : System) (all : AllAgree g) (c s : ℕ) (age : Age) (k now : Clerk) (in-it : IsInIt g c s age k) (on : GoesOn k now) (same_side : side now ≡ side k) (same_ids : now.ids ≡ k.ids) (same_log : now.log ≡ k.log)
+module _ (g : System) (all : AllAgree g) (c s : ℕ) (age : Age) (k now : Clerk) (in-it : IsInIt g c s age k) (on : SessionGoesOn k now) (same_side : side now ≡ side k) (same_ids : now.ids ≡ k.ids) (same_log : now.log ≡ k.log)
     (calls : Calls) (ms : List (ℕ × Msg)) (fits : Each (λ m. log.Fits (with_clerk g c age.boot now calls ms) m.1) ms) where
   owns : g.ghost.owner s ≡ Some (c, age)
   owns = (in-it.start).owns
@@ -37,11 +37,11 @@ module _ (g : System) (all : AllAgree g) (c s : ℕ) (age : Age) (k now : Clerk)
   ids-stay sl grants first os f = record {
     granted = f.granted;
     last = f.last;
-    distinct_ids = subst (λ z. T (distinct (z ++ makes (updates os)))) (sym same_ids) f.distinct_ids;
-    free = subst (λ z. Each (λ x. T (member x sl.unspent)) (z ++ makes (updates os))) (sym same_ids) f.free;
-    earlier = λ q. subst (λ z. Each (λ x. x < first) (z ++ makes (updates os))) (sym same_ids) (f.earlier (ap (λ z. z.got + 1) (sym same_side) ∙ q));
-    all = subst (λ z. Each (λ x. T (member x (z ++ makes (updates os))) ⊎ ((now.got + 1 ≡ grants) × (first ≤ x) × (x < first + 16))) sl.unspent) (sym same_ids)
-        (subst (λ z. Each (λ x. T (member x (k.ids ++ makes (updates os))) ⊎ ((z.got + 1 ≡ grants) × (first ≤ x) × (x < first + 16))) sl.unspent) (sym same_side) f.all);
+    distinct_ids = subst (λ z. T (distinct (z ++ made_by (updates os)))) (sym same_ids) f.distinct_ids;
+    free = subst (λ z. Each (λ x. T (member x sl.unspent)) (z ++ made_by (updates os))) (sym same_ids) f.free;
+    earlier = λ q. subst (λ z. Each (λ x. x < first) (z ++ made_by (updates os))) (sym same_ids) (f.earlier (ap (λ z. z.got + 1) (sym same_side) ∙ q));
+    all = subst (λ z. Each (λ x. T (member x (z ++ made_by (updates os))) ⊎ ((now.got + 1 ≡ grants) × (first ≤ x) × (x < first + 16))) sl.unspent) (sym same_ids)
+        (subst (λ z. Each (λ x. T (member x (k.ids ++ made_by (updates os))) ⊎ ((z.got + 1 ≡ grants) × (first ≤ x) × (x < first + 16))) sl.unspent) (sym same_side) f.all);
   }
 
   there : clerk_in g s ≡ Some k

@@ -10,7 +10,7 @@ use Rattle.ec_wire.specs.Messages.{is_held_mode}
 use Rattle.ec_cache.specs.Cache.{held_mode}
 use Rattle.ec_cache.specs.declared.state.Held.{Held}
 use Rattle.ec_coherence.specs.System.{Eff, recorded}
-use Rattle.ec_coherence.specs.Tokens.{Below, HeldAtMost, HeldBelow, GrantFits, NotedFits, Lacks, IsWrite, IsEarlier}
+use Rattle.ec_coherence.specs.Tokens.{Below, HeldAtMost, HeldBelow, GrantFits, NotedFits, LacksMode, IsWrite, IsEarlier}
 use Rattle.ec_coherence.proofs.Tables.{same_some}
 use Rattle.ec_base.proofs.Options.{none_some}
 
@@ -102,7 +102,7 @@ module _ (l m e : ℕ) (f : Option Eff) where
     elim (mv.1) [ inl a ↦ fewer o p a q.1 | inr a ↦ absurd (let b = ap (λ k. k.number) (same_some (sym w ∙ a.4)) in let c = q.0 in let r = a.3 in omega arith) ],
   )
     where
-      fewer : (o p : Option Held) → Fewer o p l m → Lacks o t.number h → Lacks p t.number h
+      fewer : (o p : Option Held) → Fewer o p l m → LacksMode o t.number h → LacksMode p t.number h
       fewer o None a b = tt
       fewer None (Some d) a b = absurd a
       fewer (Some c) (Some d) a b = (a.0 ∙ b.0, let r = b.1 in let s = a.1 in omega arith)

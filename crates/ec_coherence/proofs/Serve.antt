@@ -30,7 +30,7 @@ use Rattle.ec_durable.specs.declared.record.Record.{Record}
 use Rattle.ec_protocol.specs.declared.server.Server.{Server}
 use Rattle.ec_protocol.specs.Server.{Serving, first_spent, with_server, act, act_all, clerk_from, clerk_of, send_grant}
 use Rattle.ec_coherence.specs.System.{System, Ghost, recorded}
-use Rattle.ec_coherence.specs.Tokens.{Tables, View, Side, InSession, Below, IsWrite, Names, Passed, Wanted, Noted, AreApart, view, TokensAgree}
+use Rattle.ec_coherence.specs.Tokens.{Tables, View, Side, InSession, Below, IsWrite, Names, Passed, Wanted, Noted, WantsAreDistinct, view, TokensAgree}
 use Rattle.ec_coherence.specs.Steps.{serving_in}
 use Rattle.ec_coherence.proofs.Changed.{over, changed}
 use Rattle.ec_coherence.proofs.Granted.{granted-said, not-held}
@@ -67,7 +67,7 @@ is_of-turn q r n = subst (λ b. T (not b)) (turn q.session r.session q.obj r.obj
     turn : (a b c d : ℕ) → ((a == b) && (c == d)) ≡ ((b == a) && (d == c))
     turn a b c d = grind arith
 
-apart-less : (xs : List want.Want) (q : want.Want) (ys : List want.Want) → AreApart (xs ++ q ∷ ys) → Each (λ r. T (not (is_of q.session q.obj r))) (xs ++ ys) × AreApart (xs ++ ys)
+apart-less : (xs : List want.Want) (q : want.Want) (ys : List want.Want) → WantsAreDistinct (xs ++ q ∷ ys) → Each (λ r. T (not (is_of q.session q.obj r))) (xs ++ ys) × WantsAreDistinct (xs ++ ys)
 apart-less [] q ys d = d
 apart-less (x ∷ xs) q ys d = let e = each-less (λ r. T (not (is_of x.session x.obj r))) xs q ys d.0 in let r = apart-less xs q ys d.1 in ((is_of-turn x q e.0, r.0), (e.1, r.1))
 
@@ -81,7 +81,7 @@ module _ (w : View) (v : Tables) (q : want.Want) (told : List (ℕ × ℕ)) wher
   away-told a b [] ys f = f
   away-told a b (x ∷ xs) ys f = (f.0, away-told a b xs ys f.1)
 
-  apart-told : (xs ys : List want.Want) → AreApart (xs ++ q ∷ ys) → AreApart (xs ++ record q { told = told } ∷ ys)
+  apart-told : (xs ys : List want.Want) → WantsAreDistinct (xs ++ q ∷ ys) → WantsAreDistinct (xs ++ record q { told = told } ∷ ys)
   apart-told [] ys d = d
   apart-told (x ∷ xs) ys d = (away-told x.session x.obj xs ys d.0, apart-told xs ys d.1)
 
@@ -91,11 +91,11 @@ module _ (w : View) (v : Tables) (q : want.Want) (told : List (ℕ × ℕ)) wher
 abbrev pub Turned : tokens.Tokens → tokens.Tokens → tokens.Tokens → Type 0
 Turned first given now = (t x : ℕ) → (tokens.token now t x ≡ tokens.token first t x) ⊎ (tokens.mode (tokens.token now t x) ≡ tokens.mode (tokens.token given t x))
 
-none-passing : (p : tokens.Holder → Bool) (hs : List tokens.Holder) → Each (λ g. p g ≡ false) hs → is_none (tokens.first (filter p hs)) ≡ true
+none-passing : (p : tokens.Holder → Bool) (hs : List tokens.Holder) → Each (λ g. p g ≡ false) hs → is_none (tokens.first_holder (filter p hs)) ≡ true
 none-passing p [] f = refl
 none-passing p (g ∷ gs) f = go (p g) f.0 (none-passing p gs f.1)
   where
-    go : (b : Bool) → b ≡ false → is_none (tokens.first (filter p gs)) ≡ true → is_none (tokens.first (cond b (g ∷ filter p gs) (filter p gs))) ≡ true
+    go : (b : Bool) → b ≡ false → is_none (tokens.first_holder (filter p gs)) ≡ true → is_none (tokens.first_holder (cond b (g ∷ filter p gs) (filter p gs))) ≡ true
     go true e r = absurd (cc)
     go false e r = r
 
@@ -230,7 +230,7 @@ module _ (g : System) (γ : Ghost) (v0 : Server) (rc : Option Record) (P : ℕ �
         wants : Noted (over (tab ts n (done ++ q ∷ qs)) (with_pool (g.pool ++ ss) W)) (tab ts n (done ++ q ∷ qs)) q × Each (Noted (over (tab ts n (done ++ q ∷ qs)) (with_pool (g.pool ++ ss) W)) (tab ts n (done ++ q ∷ qs))) (done ++ qs)
         wants = each-less (Noted (over (tab ts n (done ++ q ∷ qs)) (with_pool (g.pool ++ ss) W)) (tab ts n (done ++ q ∷ qs))) done q qs f.tables.wants
 
-        keys : Each (λ r. T (not (is_of q.session q.obj r))) (done ++ qs) × AreApart (done ++ qs)
+        keys : Each (λ r. T (not (is_of q.session q.obj r))) (done ++ qs) × WantsAreDistinct (done ++ qs)
         keys = apart-less done q qs f.tables.apart
 
         without-it : Facts ts n ss (done ++ qs)

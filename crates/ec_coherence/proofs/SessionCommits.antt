@@ -21,7 +21,7 @@ use Rattle.ec_coherence.specs.Tokens.{eff, view}
 use Rattle.ec_coherence.specs.Log.{HasWrites}
 use Rattle.ec_coherence.specs.Events.{EventsAgree}
 use Rattle.ec_coherence.specs.Steps.{end_lines, ended_line, open_session, record_lines, serving_in, Under}
-use Rattle.ec_coherence.specs.BatchLaws.{Agrees}
+use Rattle.ec_coherence.specs.BatchLaws.{BatchFacts}
 use Rattle.ec_coherence.proofs.OpenAgrees as opening
 use Rattle.ec_coherence.proofs.OpenAgrees.{open-agrees}
 use Rattle.ec_coherence.proofs.OpenSlots.{at-open, open-at, owner-slot}
@@ -104,8 +104,8 @@ module _ (g : System) (γ : Ghost) (t : Serving) (u : Under g t γ) (none : t.re
   events : EventsAgree behind
   events = framed-events here now.server.durable (Some now.server) behind.pool γ'.owner γ.taken γ.grants γ.first u.invariant.events refl opens same-tokens same-owners u.invariant.images.unopened
 
-  agrees : Agrees behind
-  agrees = subst (λ z. Agrees (serving_in z γ' g)) (opening.open-is g γ t u c age within idle greater reached small) (open-agrees g γ t u c age within idle greater reached small)
+  agrees : BatchFacts behind
+  agrees = subst (λ z. BatchFacts (serving_in z γ' g)) (opening.open-is g γ t u c age within idle greater reached small) (open-agrees g γ t u c age within idle greater reached small)
 
   no-line : record_lines g (Some (record_of.Open c age s)) ≡ []
   no-line = ap (λ d. end_lines g c (slot d c)) (sym (before-record g γ t u none)) ∙ go (slot t.server.durable c) refl

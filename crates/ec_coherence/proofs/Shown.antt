@@ -6,14 +6,14 @@ use Rattle.ec_base.specs.Tables.{Table}
 use Rattle.ec_coherence.specs.System.{System}
 use Rattle.ec_coherence.specs.Log as log
 use Rattle.ec_coherence.specs.Sessions as sessions
-use Rattle.ec_coherence.specs.BatchLaws.{Agrees}
+use Rattle.ec_coherence.specs.BatchLaws.{BatchFacts}
 use Rattle.ec_coherence.proofs.Tables.{each-map}
 
 module _ (g : System) (ss : List Shown) (h : History) (fresh : Table ℕ) where
   abbrev pub lined : System
   lined = record g { ghost = record (g.ghost) { shown = ss; history = h; fresh = fresh } }
 
-  pub lines-agree : Agrees g → Agrees lined
+  pub lines-agree : BatchFacts g → BatchFacts lined
   lines-agree i = record {
     sessions = (let a = i.sessions in record {
       sixteen = a.sixteen;

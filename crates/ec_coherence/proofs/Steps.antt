@@ -34,7 +34,7 @@ use Rattle.ec_coherence.proofs.OnSystem.{kept}
 use Rattle.ec_coherence.proofs.SendWant.{goes-ask-room, goes-want-again, goes-want-once}
 use Rattle.ec_coherence.proofs.Tables.{same_some}
 use Rattle.ec_coherence.specs.CommitLaws.{AllAgree}
-use Rattle.ec_coherence.specs.StandLaws.{AreSent, ClerkStands, GoesOn, sending}
+use Rattle.ec_coherence.specs.StandLaws.{AreSent, ClerkStands, SessionGoesOn as GoesOn, sending}
 use Rattle.ec_coherence.proofs.Doings as going
 use Rattle.ec_coherence.proofs.Doings.{goes-on-stand}
 use Rattle.ec_coherence.proofs.Rests.{rests-both}

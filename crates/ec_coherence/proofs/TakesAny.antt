@@ -20,7 +20,7 @@ use Rattle.ec_coherence.specs.Sessions as sessions
 use Rattle.ec_coherence.specs.Steps.{open_session, serving_in}
 use Rattle.ec_coherence.proofs.Needs.{each-of}
 use Rattle.ec_coherence.proofs.Tables.{same_some}
-use Rattle.ec_coherence.specs.CommitLaws.{AllAgree, Stands, Takes}
+use Rattle.ec_coherence.specs.CommitLaws.{AllAgree, StepStands, TakesStep}
 use Rattle.ec_coherence.specs.Starts.{Greets}
 use Rattle.ec_coherence.proofs.Taking.{Going, as-it-is, begins, served, takes-back, takes-claim, takes-flush, takes-hello, takes-room, takes-want, within}
 use Rattle.ec_coherence.specs.Ends.{show_end}
@@ -36,16 +36,16 @@ module _ (g : System) (v : Server) (whole : AllAgree g) (up : g.server ≡ Some 
   abbrev here : System
   here = serving_in t g.ghost g
 
-  st : Stands g t g.ghost
+  st : StepStands g t g.ghost
   st = begins g v whole up
 
   finishes : (sl : Slot) → slot v.durable c ≡ Some sl → T sl.is_open → Going g (finish c sl t)
   finishes sl q o = inr (show_end here c sl, finish-stands g g.ghost t st refl c sl q o, finish-spends g g.ghost t st refl c sl q o)
 
-  takes-bye : (s e : ℕ) → Takes g c (Bye s e) v
+  takes-bye : (s e : ℕ) → TakesStep g c (Bye s e) v
   takes-bye s e = served g (taken c (Bye s e) t) (within g g.ghost t st refl c s e true (finish c) (λ sl q r o now claimed. finishes sl q o))
 
-  pub end-stands : T (is_some (end c v).spent) ⊎ ((γ : Ghost) × Stands g (end c v) γ)
+  pub end-stands : T (is_some (end c v).spent) ⊎ ((γ : Ghost) × StepStands g (end c v) γ)
   end-stands = served g (end_open c (slot v.durable c) t) (go (slot v.durable c) refl)
     where
       opened : (sl : Slot) → slot v.durable c ≡ Some sl → (b : Bool) → sl.is_open ≡ b → Going g (elim b as (λ z. Serving) [ true ↦ finish c sl t | false ↦ t ])
@@ -57,7 +57,7 @@ module _ (g : System) (v : Server) (whole : AllAgree g) (up : g.server ≡ Some 
       go (Some sl) q = opened sl q sl.is_open refl
 
   -- a greeting, in whose place a session may be open
-  pub takes-greeting : (from : ℕ) (age : Age) → Contains g.pool (c, Hello from age) → Takes g c (Hello from age) v
+  pub takes-greeting : (from : ℕ) (age : Age) → Contains g.pool (c, Hello from age) → TakesStep g c (Hello from age) v
   takes-greeting from age p = go (slot v.durable c) refl
     where
       in-pool : Contains here.pool (c, Hello from age)
@@ -85,19 +85,19 @@ module _ (g : System) (v : Server) (whole : AllAgree g) (up : g.server ≡ Some 
       mine sl q o m true e = subst (λ z. Going g (greet c age (greeting z age) t)) (sym q) (greets sl q o m)
       mine sl q o m false e = as-it-is g g.ghost t st refl c 0 0
 
-      older : (sl : Slot) → slot v.durable c ≡ Some sl → T sl.is_open → (b : Bool) → is_older sl.age age ≡ b → Takes g c (Hello from age) v
+      older : (sl : Slot) → slot v.durable c ≡ Some sl → T sl.is_open → (b : Bool) → is_older sl.age age ≡ b → TakesStep g c (Hello from age) v
       older sl q o true m = served g (taken c (Hello from age) t) (mine sl q o (holds (is_older sl.age age) m) (c == from) refl)
       older sl q o false m = takes-hello g v whole up c from age (λ so r x. ap (λ z. is_older z.age age) (same_some (sym r ∙ q)) ∙ m) p
 
-      opened : (sl : Slot) → slot v.durable c ≡ Some sl → (b : Bool) → sl.is_open ≡ b → Takes g c (Hello from age) v
+      opened : (sl : Slot) → slot v.durable c ≡ Some sl → (b : Bool) → sl.is_open ≡ b → TakesStep g c (Hello from age) v
       opened sl q true o = older sl q (holds sl.is_open o) (is_older sl.age age) refl
       opened sl q false o = takes-hello g v whole up c from age (λ so r x. absurd (true≢false (sym (is-true so.is_open x) ∙ ap (λ z. z.is_open) (same_some (sym r ∙ q)) ∙ o))) p
 
-      go : (o : Option Slot) → slot v.durable c ≡ o → Takes g c (Hello from age) v
+      go : (o : Option Slot) → slot v.durable c ≡ o → TakesStep g c (Hello from age) v
       go None q = takes-hello g v whole up c from age (λ so r x. absurd (none_some (sym q ∙ r))) p
       go (Some sl) q = opened sl q sl.is_open refl
 
-  pub takes-any : (m : Msg) → Contains g.pool (c, m) → Takes g c m v
+  pub takes-any : (m : Msg) → Contains g.pool (c, m) → TakesStep g c m v
   takes-any (Hello from age) p = takes-greeting from age p
   takes-any (Want s e x h l) p = takes-want g v whole up c s e x l h p
   takes-any (Back s e x n h) p = takes-back g v whole up c s e x n h p

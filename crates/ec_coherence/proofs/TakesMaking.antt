@@ -20,7 +20,7 @@ use Rattle.ec_coherence.specs.Sessions as sessions
 use Rattle.ec_coherence.specs.Steps.{open_session, serving_in}
 use Rattle.ec_coherence.proofs.Needs.{each-of}
 use Rattle.ec_coherence.proofs.Tables.{same_some}
-use Rattle.ec_coherence.specs.CommitLaws.{AllAgree, Stands}
+use Rattle.ec_coherence.specs.CommitLaws.{AllAgree, StepStands}
 use Rattle.ec_coherence.proofs.Finish.{finish-is}
 use Rattle.ec_coherence.specs.Starts.{Greets}
 use Rattle.ec_coherence.proofs.Taking.{begins}
@@ -40,7 +40,7 @@ module _ (g : System) (v : Server) (whole : AllAgree g) (up : g.server ≡ Some 
   abbrev here : System
   here = serving_in t g.ghost g
 
-  st : Stands g t g.ghost
+  st : StepStands g t g.ghost
   st = begins g v whole up
 
   finishes : (sl : Slot) → slot v.durable c ≡ Some sl → T sl.is_open → Going g v (finish c sl t)

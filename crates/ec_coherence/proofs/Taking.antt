@@ -45,7 +45,7 @@ use Rattle.ec_coherence.proofs.ServeStands.{serve-serves}
 use Rattle.ec_coherence.proofs.Tables.{at-put, fails, same_some}
 use Rattle.ec_coherence.proofs.GiveAgrees.{grant-is}
 use Rattle.ec_coherence.proofs.OpenAgrees.{open-is}
-use Rattle.ec_coherence.specs.CommitLaws.{AllAgree, Stands, Takes, show_batch}
+use Rattle.ec_coherence.specs.CommitLaws.{AllAgree, StepStands, TakesStep, show_batch}
 use Rattle.ec_coherence.specs.Starts.{Greets}
 use Rattle.ec_coherence.specs.Watches.{FirstsAgree, WatchesAgree}
 use Rattle.ec_coherence.proofs.Claiming.{claims-clear}
@@ -64,7 +64,7 @@ module _ (g : System) (v : Server) (all : AllAgree g) (up : g.server ≡ Some v)
   runs-on : (v.durable ≡ g.durable) × (g.unshown ≡ None)
   runs-on = subst (RunsOn g) up (all.0).stops.runs
 
-  pub begins : Stands g (serving v) g.ghost
+  pub begins : StepStands g (serving v) g.ghost
   begins = (
     record {
       committed = runs-on.0;
@@ -79,9 +79,9 @@ module _ (g : System) (v : Server) (all : AllAgree g) (up : g.server ≡ Some v)
 
 -- a counter is spent, or none is so far, and the step stands
 abbrev pub Going : System → Serving → Type 0
-Going g f = T (is_some f.spent) ⊎ ((γ : Ghost) × Stands g f γ × (f.spent ≡ None))
+Going g f = T (is_some f.spent) ⊎ ((γ : Ghost) × StepStands g f γ × (f.spent ≡ None))
 
-pub served : (g : System) (f : Serving) → Going g f → T (is_some (serve f).spent) ⊎ ((γ : Ghost) × Stands g (serve f) γ)
+pub served : (g : System) (f : Serving) → Going g f → T (is_some (serve f).spent) ⊎ ((γ : Ghost) × StepStands g (serve f) γ)
 served g f (inl p) = inl (serve-kept f p)
 served g f (inr (γ, s, n)) = elim (serve-serves g γ f s.0 n) [
   | inl p ↦ inl p
@@ -97,7 +97,7 @@ served g f (inr (γ, s, n)) = elim (serve-serves g γ f s.0 n) [
 ]
 
 -- A message by its session.
-module _ (g : System) (γ : Ghost) (t : Serving) (st : Stands g t γ) (unspent : t.spent ≡ None) (c s e : ℕ) where
+module _ (g : System) (γ : Ghost) (t : Serving) (st : StepStands g t γ) (unspent : t.spent ≡ None) (c s e : ℕ) where
   said : (m : Msg) → Greets g c m → Under g (tell c m t) γ → Going g (tell c m t)
   said m q u = inr (γ, (u, watches-read (serving_in t γ g) t.server.durable (Some t.server) (g.pool ++ (tell c m t).sent) refl st.1, st.2, starts-on g γ t st.3 (tell c m t) (quiet-with g γ t st.3 c m q)), unspent)
 
@@ -156,7 +156,7 @@ module _ (g : System) (v : Server) (whole : AllAgree g) (up : g.server ≡ Some 
   abbrev here : System
   here = serving_in t g.ghost g
 
-  st : Stands g t g.ghost
+  st : StepStands g t g.ghost
   st = begins g v whole up
 
   in-pool : (m : Msg) → Contains g.pool (c, m) → Contains here.pool (c, m)
@@ -171,7 +171,7 @@ module _ (g : System) (v : Server) (whole : AllAgree g) (up : g.server ≡ Some 
   of-logs : (m : Msg) → Contains g.pool (c, m) → log.Fits here m
   of-logs m p = each-of (λ z. log.Fits here z.1) here.pool (c, m) (st.0).invariant.logs.messages (in-pool m p)
 
-  ends : (m : Msg) → Going g (taken c m t) → Takes g c m v
+  ends : (m : Msg) → Going g (taken c m t) → TakesStep g c m v
   ends m w = served g (taken c m t) w
 
   -- a step of the tables alone
@@ -187,7 +187,7 @@ module _ (g : System) (v : Server) (whole : AllAgree g) (up : g.server ≡ Some 
   abbrev wanting : ℕ → ℕ → Hold → ℕ → Option Token → Serving
   wanting s x h l o = elim o as (λ z. Serving) [ None ↦ note s x h t | Some k ↦ granting s x h k (nat_lt l k.number) ]
 
-  pub takes-back : (s e x n : ℕ) (h : Hold) → Contains g.pool (c, Back s e x n h) → Takes g c (Back s e x n h) v
+  pub takes-back : (s e x n : ℕ) (h : Hold) → Contains g.pool (c, Back s e x n h) → TakesStep g c (Back s e x n h) v
   takes-back s e x n h p = ends (Back s e x n h) (within g g.ghost t st refl c s e false (λ sl. back s x n h)
       (λ sl q r o now claimed. went (back s x n h t) (back-stands g g.ghost t st.0 s x claimed e n h (of-tokens (Back s e x n h) p) now) (same (fits_back (token v.tokens s x) n h)) (quiet (fits_back (token v.tokens s x) n h)) (unspent (fits_back (token v.tokens s x) n h))))
     where
@@ -203,7 +203,7 @@ module _ (g : System) (v : Server) (whole : AllAgree g) (up : g.server ≡ Some 
       unspent true = refl
       unspent false = refl
 
-  pub takes-want : (s e x l : ℕ) (h : Hold) → Contains g.pool (c, Want s e x h l) → Takes g c (Want s e x h l) v
+  pub takes-want : (s e x l : ℕ) (h : Hold) → Contains g.pool (c, Want s e x h l) → TakesStep g c (Want s e x h l) v
   takes-want s e x l h p = ends (Want s e x h l) (within g g.ghost t st refl c s e false (λ sl. want c s x h l)
       (λ sl q r o now claimed. went (want c s x h l t) (want-stands g g.ghost t st.0 s x claimed c e l h (of-sessions (Want s e x h l) p) (of-tokens (Want s e x h l) p) now)
       (same (token v.tokens s x)) (quiet (token v.tokens s x)) (unspent (token v.tokens s x))))
@@ -244,7 +244,7 @@ module _ (g : System) (v : Server) (whole : AllAgree g) (up : g.server ≡ Some 
   some-at None y = absurd y
   some-at (Some ns) y = (ns, refl)
 
-  pub takes-flush : (s e b : ℕ) (ops : List (ℕ × Update)) → Contains g.pool (c, Flush s e b ops) → Takes g c (Flush s e b ops) v
+  pub takes-flush : (s e b : ℕ) (ops : List (ℕ × Update)) → Contains g.pool (c, Flush s e b ops) → TakesStep g c (Flush s e b ops) v
   takes-flush s e b ops p = ends (Flush s e b ops) (within g g.ghost t st refl c s e false (flush c s b ops) (λ sl q r o now claimed. comes sl q r o claimed (has sl.window b) refl))
     where
       passed : tokens.Passed (view here) s e
@@ -273,7 +273,7 @@ module _ (g : System) (v : Server) (whole : AllAgree g) (up : g.server ≡ Some 
           )))
 
   -- what a claim names was the session's own
-  pub takes-claim : (s e : ℕ) (l : Table Hold) → Contains g.pool (c, Claim s e l) → Takes g c (Claim s e l) v
+  pub takes-claim : (s e : ℕ) (l : Table Hold) → Contains g.pool (c, Claim s e l) → TakesStep g c (Claim s e l) v
   takes-claim s e l p = ends (Claim s e l) (within g g.ghost t st refl c s e true (claim c s l) (λ sl q r o now claimed. comes sl q r o now (member s v.claimed) refl))
     where
       sound : T (is_sound (Claim s e l))
@@ -301,7 +301,7 @@ module _ (g : System) (v : Server) (whole : AllAgree g) (up : g.server ≡ Some 
           (went (record t { server = record v { tokens = claimed s l v.tokens; claimed = s ∷ v.claimed } }) (claim-stands g g.ghost t st.0 s e l fits sound now is-open new clear) refl tt refl))
 
   -- a clerk greets, and no session is open in whose place a new one would come
-  pub takes-hello : (from : ℕ) (age : Age) → ((sl : Slot) → slot v.durable c ≡ Some sl → T sl.is_open → is_older sl.age age ≡ false) → Contains g.pool (c, Hello from age) → Takes g c (Hello from age) v
+  pub takes-hello : (from : ℕ) (age : Age) → ((sl : Slot) → slot v.durable c ≡ Some sl → T sl.is_open → is_older sl.age age ≡ false) → Contains g.pool (c, Hello from age) → TakesStep g c (Hello from age) v
   takes-hello from age alone p = ends (Hello from age) (own (c == from) refl)
     where
       fits : sessions.Fits here c (Hello from age)
@@ -352,7 +352,7 @@ module _ (g : System) (v : Server) (whole : AllAgree g) (up : g.server ≡ Some 
       own false m = as-it-is g g.ghost t st refl c 0 0
 
   -- the next ids are asked for, or the last ones again
-  pub takes-room : (s e got ask : ℕ) → Contains g.pool (c, Room s e got ask) → Takes g c (Room s e got ask) v
+  pub takes-room : (s e got ask : ℕ) → Contains g.pool (c, Room s e got ask) → TakesStep g c (Room s e got ask) v
   takes-room s e got ask p = ends (Room s e got ask) (within g g.ghost t st refl c s e false (room c s got ask) (λ sl q r o now claimed. comes sl q r o now claimed (got == sl.grants) refl))
     where
       fits : tokens.Fits (view here) (Room s e got ask)

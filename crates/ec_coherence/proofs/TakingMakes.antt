@@ -45,7 +45,7 @@ use Rattle.ec_coherence.proofs.ServeStands.{serve-serves}
 use Rattle.ec_coherence.proofs.Tables.{at-put, fails, same_some}
 use Rattle.ec_coherence.proofs.GiveAgrees.{grant-is}
 use Rattle.ec_coherence.proofs.OpenAgrees.{open-is}
-use Rattle.ec_coherence.specs.CommitLaws.{AllAgree, Stands, show_batch}
+use Rattle.ec_coherence.specs.CommitLaws.{AllAgree, StepStands, show_batch}
 use Rattle.ec_coherence.specs.Starts.{Greets}
 use Rattle.ec_coherence.specs.Watches.{FirstsAgree, WatchesAgree}
 use Rattle.ec_coherence.proofs.Claiming.{claims-clear}
@@ -64,7 +64,7 @@ use Rattle.ec_base.proofs.Options.{none_some}
 
 -- a counter is spent, or none is so far, and the step stands, with what it made of the ghosts
 abbrev pub Going : System → Server → Serving → Type 0
-Going g v f = T (is_some f.spent) ⊎ ((γ : Ghost) × Stands g f γ × (f.spent ≡ None) × Makes g v f.rec γ)
+Going g v f = T (is_some f.spent) ⊎ ((γ : Ghost) × StepStands g f γ × (f.spent ≡ None) × Makes g v f.rec γ)
 
 pub served : (g : System) (v : Server) (f : Serving) → Going g v f → IsMade g v (serve f)
 served g v f (inl p) = inl (serve-kept f p)
@@ -83,7 +83,7 @@ served g v f (inr (γ, s, n, m)) = elim (serve-serves g γ f s.0 n) [
 ]
 
 -- A message by its session.
-module _ (g : System) (v : Server) (γ : Ghost) (t : Serving) (st : Stands g t γ) (unspent : t.spent ≡ None) (made : Makes g v t.rec γ) (c s e : ℕ) where
+module _ (g : System) (v : Server) (γ : Ghost) (t : Serving) (st : StepStands g t γ) (unspent : t.spent ≡ None) (made : Makes g v t.rec γ) (c s e : ℕ) where
   said : (m : Msg) → Greets g c m → Under g (tell c m t) γ → Going g v (tell c m t)
   said m q u = inr (γ, (u, watches-read (serving_in t γ g) t.server.durable (Some t.server) (g.pool ++ (tell c m t).sent) refl st.1, st.2, starts-on g γ t st.3 (tell c m t) (quiet-with g γ t st.3 c m q)), unspent, made)
 
@@ -142,7 +142,7 @@ module _ (g : System) (v : Server) (whole : AllAgree g) (up : g.server ≡ Some 
   abbrev here : System
   here = serving_in t g.ghost g
 
-  st : Stands g t g.ghost
+  st : StepStands g t g.ghost
   st = begins g v whole up
 
   in-pool : (m : Msg) → Contains g.pool (c, m) → Contains here.pool (c, m)

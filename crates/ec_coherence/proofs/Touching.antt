@@ -30,7 +30,7 @@ use Rattle.ec_coherence.specs.Events.{EventsAgree, shown_boot, shown_op}
 use Rattle.ec_coherence.proofs.Settled.{each-member}
 use Rattle.ec_coherence.proofs.Tables.{same_some, clash-below}
 use Rattle.ec_coherence.specs.Answers.{IsLive, Sees, Gives, fresh_of, based}
-use Rattle.ec_coherence.specs.Comes.{Marked, entry_next}
+use Rattle.ec_coherence.specs.Comes.{DurableAreMarked, entry_next}
 use Rattle.ec_coherence.proofs.Answering.{is-at, fresh-here, kept-now}
 use Rattle.ec_base.proofs.Numbers.{same-self as same, equal}
 use Rattle.ec_base.proofs.Options.{none_some}
@@ -130,7 +130,7 @@ same-boot : (f h a b : ℕ) → f ≡ h → f < a → h < b → a - f ≡ b - h 
 same-boot f h a b e x y z = omega (arith, e, x, y, z)
 
 -- So the answer leaves alone what other open sessions may lose.
-module _ (g : System) (ev : EventsAgree g) (tok : TokensAgree (view g)) (writes : Each (λ o. T (not (g.ghost.is_durable o)) → HasWrites g o) g.ghost.kept) (c b s : ℕ) (age : Age) (k : Clerk) (mk : Marked g c k)
+module _ (g : System) (ev : EventsAgree g) (tok : TokensAgree (view g)) (writes : Each (λ o. T (not (g.ghost.is_durable o)) → HasWrites g o) g.ghost.kept) (c b s : ℕ) (age : Age) (k : Clerk) (mk : DurableAreMarked g c k)
     (i : clerk_in g s ≡ Some k) (p : T (is_open g s)) (w : g.ghost.owner s ≡ Some (c, age)) (r : g.running c ≡ Some b) (q : g.clerks c b ≡ Some k) (uncut : IsLive g c k) (sees : Sees g k)
     (most l : ℕ) (cl : Call) (a : Answer) (op : Option ℕ) (rest : Owed) (gives : Gives most k (verdict cl k) a op rest) where
   abbrev B : Base

@@ -26,7 +26,7 @@ use Rattle.ec_coherence.specs.Images.{ImagesAgree}
 use Rattle.ec_coherence.specs.Steps.{end_session, give_ids, keep_batch, open_session, serving_in, Under}
 
 -- The facts that these laws rest on.
-pub record Agrees (g : System) : Type 0 where
+pub record BatchFacts (g : System) : Type 0 where
   pub sessions : SessionsAgree g
   pub tokens : TokensAgree (view g)
   pub logs : LogsAgree g
@@ -34,7 +34,7 @@ pub record Agrees (g : System) : Type 0 where
 
 -- a Flush of an open session that isn't marked steps: no batch ends a session
 abbrev pub FlushesStep : Type 0
-FlushesStep = (g : System) → Agrees g → (c s e b : ℕ) (ops : List (ℕ × Update)) → log.Fits g (Flush s e b ops)
+FlushesStep = (g : System) → BatchFacts g → (c s e b : ℕ) (ops : List (ℕ × Update)) → log.Fits g (Flush s e b ops)
     → (sl : Slot) (k : Clerk) → slot g.durable c ≡ Some sl → sl.session ≡ s → T sl.is_open → clerk_in g s ≡ Some k → T (not (has sl.window b))
     → (d : Durable) × (step (record_of.Batch c s b ops) g.durable ≡ Ok d)
 
@@ -44,7 +44,7 @@ behind_batch g d v c s b e sl ops = record g { durable = d; server = v; pool = g
 
 -- behind it logs and images agree
 abbrev pub BatchesKeep : Type 0
-BatchesKeep = (g : System) → Agrees g → (c s : ℕ) (sl : Slot) (k : Clerk) → slot g.durable c ≡ Some sl → sl.session ≡ s → T sl.is_open → clerk_in g s ≡ Some k
+BatchesKeep = (g : System) → BatchFacts g → (c s : ℕ) (sl : Slot) (k : Clerk) → slot g.durable c ≡ Some sl → sl.session ≡ s → T sl.is_open → clerk_in g s ≡ Some k
     → (b : ℕ) (ns : List ℕ) → at b k.log.batches ≡ Some ns → T (not (has sl.window b)) → (v : Option Server) (e : ℕ) (d : Durable)
     → step (record_of.Batch c s b (batch b k.log)) g.durable ≡ Ok d
     → LogsAgree (behind_batch g d v c s b e sl (batch b k.log)) × ImagesAgree (behind_batch g d v c s b e sl (batch b k.log))
@@ -55,7 +55,7 @@ behind_end g d v c s low mask = record g { durable = d; server = v; pool = g.poo
 
 -- an open session can end, and behind its end logs and images agree
 abbrev pub EndsKeep : Type 0
-EndsKeep = (g : System) → Agrees g → (c s : ℕ) (sl : Slot) → slot g.durable c ≡ Some sl → sl.session ≡ s → T sl.is_open → (v : Option Server) (low mask : ℕ)
+EndsKeep = (g : System) → BatchFacts g → (c s : ℕ) (sl : Slot) → slot g.durable c ≡ Some sl → sl.session ≡ s → T sl.is_open → (v : Option Server) (low mask : ℕ)
     → (d : Durable) × (step (record_of.End c s) g.durable ≡ Ok d) × LogsAgree (behind_end g d v c s low mask) × ImagesAgree (behind_end g d v c s low mask)
 
 -- The server's functions, with the record that they commit and the messages that they send.
@@ -63,30 +63,30 @@ EndsKeep = (g : System) → Agrees g → (c s : ℕ) (sl : Slot) → slot g.dura
 -- the clerk's open session ends
 abbrev pub FinishKeeps : Type 0
 FinishKeeps = (g : System) (γ : Ghost) (t : Serving) → Under g t γ → (c : ℕ) (sl : Slot) → slot t.server.durable c ≡ Some sl → T sl.is_open
-    → Agrees (serving_in (finish c sl t) (end_session (serving_in t γ g) sl.session γ) g)
+    → BatchFacts (serving_in (finish c sl t) (end_session (serving_in t γ g) sl.session γ) g)
 
 -- a batch under way that isn't marked comes, of a session that has claimed
 abbrev pub FlushKeeps : Type 0
 FlushKeeps = (g : System) (γ : Ghost) (t : Serving) → Under g t γ → (c : ℕ) (sl : Slot) (k : Clerk) → slot t.server.durable c ≡ Some sl → T sl.is_open
     → clerk_in (serving_in t γ g) sl.session ≡ Some k → T (member sl.session t.server.claimed) → (b : ℕ) (ns : List ℕ) → at b k.log.batches ≡ Some ns → T (not (has sl.window b))
-    → Agrees (serving_in (flush c sl.session b (batch b k.log) sl t) (keep_batch c (sl.age).boot (keys (batch b k.log)) γ) g)
+    → BatchFacts (serving_in (flush c sl.session b (batch b k.log) sl t) (keep_batch c (sl.age).boot (keys (batch b k.log)) γ) g)
 
 -- a clerk without an open session greets with a greater age, and there is a number for its session
 abbrev pub OpenKeeps : Type 0
 OpenKeeps = (g : System) (γ : Ghost) (t : Serving) → Under g t γ → (c : ℕ) (age : Age) → c < 16
     → ((sl : Slot) → slot t.server.durable c ≡ Some sl → T (not sl.is_open)) → ((sl : Slot) → slot t.server.durable c ≡ Some sl → T (is_older sl.age age))
     → IsReached (serving_in t γ g) c age → nat_le last_counter t.server.durable.next_session ≡ false
-    → Agrees (serving_in (open_new c age None t) (open_session c age t.server.durable.next_session γ) g)
+    → BatchFacts (serving_in (open_new c age None t) (open_session c age t.server.durable.next_session γ) g)
 
 -- or one with an open session does, which ends by the same record
 abbrev pub OpenOverKeeps : Type 0
 OpenOverKeeps = (g : System) (γ : Ghost) (t : Serving) → Under g t γ → (c : ℕ) (sl : Slot) → slot t.server.durable c ≡ Some sl → T sl.is_open
     → (age : Age) → c < 16 → T (is_older sl.age age) → IsReached (serving_in t γ g) c age → nat_le last_counter t.server.durable.next_session ≡ false
-    → Agrees (serving_in (open_new c age (Some sl.session) t) (open_session c age t.server.durable.next_session (end_session (serving_in t γ g) sl.session γ)) g)
+    → BatchFacts (serving_in (open_new c age (Some sl.session) t) (open_session c age t.server.durable.next_session (end_session (serving_in t γ g) sl.session γ)) g)
 
 -- a session that has claimed, and whose clerk took all ids that it was given, is given sixteen more, where there is room
 abbrev pub GiveKeeps : Type 0
 GiveKeeps = (g : System) (γ : Ghost) (t : Serving) → Under g t γ → (c : ℕ) (sl : Slot) → slot t.server.durable c ≡ Some sl → T sl.is_open
     → (k : Clerk) → clerk_in (serving_in t γ g) sl.session ≡ Some k → T (member sl.session t.server.claimed) → T (γ.taken sl.session) → k.got ≡ sl.grants
     → (ask : ℕ) → is_full t.server.durable ≡ false → ids_are_spent sl.grants t ≡ false → is_last_number t ≡ false
-    → Agrees (serving_in (grant_ids c sl.session sl.grants ask t) (give_ids sl.session t.server.durable.next_id γ) g)
+    → BatchFacts (serving_in (grant_ids c sl.session sl.grants ask t) (give_ids sl.session t.server.durable.next_id γ) g)

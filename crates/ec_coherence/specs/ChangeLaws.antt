@@ -28,7 +28,7 @@ use Rattle.ec_coherence.specs.Tokens.{IsWrite, RoomFits, side, view}
 use Rattle.ec_coherence.specs.Log as log
 use Rattle.ec_coherence.specs.Log.{IdsAgree, LogsAgree, OfOpen}
 use Rattle.ec_coherence.specs.Images.{ImagesAgree}
-use Rattle.ec_coherence.specs.BatchLaws.{Agrees}
+use Rattle.ec_coherence.specs.BatchLaws.{BatchFacts}
 use Rattle.ec_coherence.specs.Steps.{give_ids, open_session}
 
 abbrev pub LogsAndImages : System → Type 0
@@ -55,18 +55,18 @@ with_clerk g c b k calls ms = record g { clerks = with_start c b k g.clerks; cal
 
 -- a batch that the server's window has is passed
 abbrev pub BatchesPass : Type 0
-BatchesPass = (g : System) → Agrees g → (c s : ℕ) (age : Age) (k : Clerk) → IsInIt g c s age k → (calls : Calls) (b : ℕ) → OfOpen g s (λ sl. T (has sl.window b))
+BatchesPass = (g : System) → BatchFacts g → (c s : ℕ) (age : Age) (k : Clerk) → IsInIt g c s age k → (calls : Calls) (b : ℕ) → OfOpen g s (λ sl. T (has sl.window b))
     → LogsAndImages (with_clerk g c age.boot (record k { log = kept b k.log }) calls [])
 
 -- a new batch is picked, and its Flush goes out
 abbrev pub BatchesAreSent : Type 0
-BatchesAreSent = (g : System) → Agrees g → (c s : ℕ) (age : Age) (k : Clerk) → IsInIt g c s age k → (calls : Calls) (a : Asked) (b : ℕ) (ns : List ℕ)
+BatchesAreSent = (g : System) → BatchFacts g → (c s : ℕ) (age : Age) (k : Clerk) → IsInIt g c s age k → (calls : Calls) (a : Asked) (b : ℕ) (ns : List ℕ)
     → pick a k.log ≡ Batch b ns → batches_are_spent k.log ≡ false → (e : ℕ)
     → LogsAndImages (with_clerk g c age.boot (record k { log = after_pick (Batch b ns) k.log }) calls ((c, Flush s e b (batch b (after_pick (Batch b ns) k.log))) ∷ []))
 
 -- the Flush of a batch under way goes out again
 abbrev pub BatchesAreSentAgain : Type 0
-BatchesAreSentAgain = (g : System) → Agrees g → (c s : ℕ) (age : Age) (k : Clerk) → IsInIt g c s age k → (calls : Calls) (b e : ℕ) → T (is_some (at b k.log.batches))
+BatchesAreSentAgain = (g : System) → BatchFacts g → (c s : ℕ) (age : Age) (k : Clerk) → IsInIt g c s age k → (calls : Calls) (b e : ℕ) → T (is_some (at b k.log.batches))
     → LogsAndImages (with_clerk g c age.boot (record k { log = k.log }) calls ((c, Flush s e b (batch b k.log)) ∷ []))
 
 -- Of answers with an update.
@@ -80,14 +80,14 @@ with_answer u used k = let m = with_update u k in record m { cache = cache.all_u
 
 -- in an open session: Write tokens are held on the operands, where the update fits, and a new object has the clerk's first id
 abbrev pub OperationsAreKept : Type 0
-OperationsAreKept = (g : System) → Agrees g → (c s : ℕ) (age : Age) (k : Clerk) → IsInIt g c s age k → (sl : Slot) → slot g.durable c ≡ Some sl → sl.session ≡ s → T sl.is_open
+OperationsAreKept = (g : System) → BatchFacts g → (c s : ℕ) (age : Age) (k : Clerk) → IsInIt g c s age k → (sl : Slot) → slot g.durable c ≡ Some sl → sl.session ≡ s → T sl.is_open
     → (u : Update) (used : List ℕ) (place : ℕ) (calls : Calls) → T (suits u k.cache) → ((x : ℕ) → T (has_operand x u) → IsWrite (at x k.cache.held))
     → ((x : ℕ) → made u ≡ Some x → first_id k.ids ≡ Some x)
     → LogsAndImages (record g { clerks = with_start c age.boot (with_answer u used k) g.clerks; calls = calls; ghost = record (g.ghost) { kept = g.ghost.kept ++ next_op c age.boot k place u ∷ [] } })
 
 -- in a session that has ended: what its clerk sees gets the operation, and nobody else
 abbrev pub LateOperationsAreSeen : Type 0
-LateOperationsAreSeen = (g : System) → Agrees g → (c s : ℕ) (age : Age) (k : Clerk) → IsInIt g c s age k → (ks : List Op) → g.ghost.frozen s ≡ Some ks
+LateOperationsAreSeen = (g : System) → BatchFacts g → (c s : ℕ) (age : Age) (k : Clerk) → IsInIt g c s age k → (ks : List Op) → g.ghost.frozen s ≡ Some ks
     → (u : Update) (m : CacheState) (ids : List ℕ) (place : ℕ) (calls : Calls)
     → ((x : ℕ) (o : Held) → at x m.held ≡ Some o → (p : Held) × (at x k.cache.held ≡ Some p) × (o.image ≡ image_next x p.image u))
     → LogsAndImages (record g {
@@ -100,14 +100,14 @@ LateOperationsAreSeen = (g : System) → Agrees g → (c s : ℕ) (age : Age) (k
 
 -- the server opens a session for a clerk without an open one
 abbrev pub SessionsOpen : Type 0
-SessionsOpen = (g : System) → Agrees g → (c s : ℕ) (age : Age) → g.ghost.owner s ≡ None → ((sl : Slot) → slot g.durable c ≡ Some sl → T (not sl.is_open))
+SessionsOpen = (g : System) → BatchFacts g → (c s : ℕ) (age : Age) → g.ghost.owner s ≡ None → ((sl : Slot) → slot g.durable c ≡ Some sl → T (not sl.is_open))
     → (d : Durable) → slot d c ≡ Some (new_slot age s) → ((j : ℕ) → j ≢ c → slot d j ≡ slot g.durable j) → d.volume ≡ (g.durable).volume → d.next_id ≡ (g.durable).next_id
     → (v : Option Server) (ms : List (ℕ × Msg))
     → let h = record g { durable = d; server = v; pool = g.pool ++ ms; ghost = open_session c age s g.ghost } in Each (λ m. log.Fits h m.1) ms → LogsAndImages h
 
 -- its clerk takes it
 abbrev pub SessionsAreTaken : Type 0
-SessionsAreTaken = (g : System) → Agrees g → (c s : ℕ) (age : Age) (k : Clerk) → IsStart g c s age k → k.session ≡ None → T (not (g.ghost.taken s))
+SessionsAreTaken = (g : System) → BatchFacts g → (c s : ℕ) (age : Age) (k : Clerk) → IsStart g c s age k → k.session ≡ None → T (not (g.ghost.taken s))
     → (e : ℕ) (calls : Calls) (ms : List (ℕ × Msg))
     → let h = record g {
       clerks = with_start c age.boot (record k { session = Some s; epoch = e }) g.clerks;
@@ -118,14 +118,14 @@ SessionsAreTaken = (g : System) → Agrees g → (c s : ℕ) (age : Age) (k : Cl
 
 -- and leaves it, where it isn't open
 abbrev pub SessionsAreLeft : Type 0
-SessionsAreLeft = (g : System) → Agrees g → (c s : ℕ) (age : Age) (k : Clerk) → IsInIt g c s age k → T (not (is_open g s)) → (now : Clerk) → now.session ≡ None → now.log.next ≡ k.log.next
+SessionsAreLeft = (g : System) → BatchFacts g → (c s : ℕ) (age : Age) (k : Clerk) → IsInIt g c s age k → T (not (is_open g s)) → (now : Clerk) → now.session ≡ None → now.log.next ≡ k.log.next
     → (calls : Calls) (ms : List (ℕ × Msg)) → let h = with_clerk g c age.boot now calls ms in Each (λ m. log.Fits h m.1) ms → LogsAndImages h
 
 -- Of ids.
 
 -- the server gives sixteen ids to a session whose clerk took all before
 abbrev pub IdsAreGiven : Type 0
-IdsAreGiven = (g : System) → Agrees g → (c s : ℕ) (sl : Slot) → slot g.durable c ≡ Some sl → sl.session ≡ s → T sl.is_open → T (g.ghost.taken s)
+IdsAreGiven = (g : System) → BatchFacts g → (c s : ℕ) (sl : Slot) → slot g.durable c ≡ Some sl → sl.session ≡ s → T sl.is_open → T (g.ghost.taken s)
     → ((k : Clerk) → clerk_in g s ≡ Some k → k.got ≡ sl.grants) → (d : Durable) → d.volume ≡ (g.durable).volume → d.next_id ≡ (g.durable).next_id + 16
     → ((j : ℕ) → j ≢ c → slot d j ≡ slot g.durable j)
     → slot d c ≡ Some (record sl { grants = sl.grants + 1; last_first = Some ((g.durable).next_id); unspent = with_ids ((g.durable).next_id) sl.unspent })
@@ -134,7 +134,7 @@ IdsAreGiven = (g : System) → Agrees g → (c s : ℕ) (sl : Slot) → slot g.d
 
 -- the clerk takes them, with tokens on them
 abbrev pub IdsAreTaken : Type 0
-IdsAreTaken = (g : System) → Agrees g → (c s : ℕ) (age : Age) (k : Clerk) → IsInIt g c s age k → (calls : Calls) (first : ℕ) (m : CacheState) → k.got + 1 ≡ g.ghost.grants s → first ≡ g.ghost.first s
+IdsAreTaken = (g : System) → BatchFacts g → (c s : ℕ) (age : Age) (k : Clerk) → IsInIt g c s age k → (calls : Calls) (first : ℕ) (m : CacheState) → k.got + 1 ≡ g.ghost.grants s → first ≡ g.ghost.first s
     → ((x : ℕ) → IsWrite (at x k.cache.held) → IsWrite (at x m.held)) → ((x : ℕ) (o : Held) → at x m.held ≡ Some o → o.image ≡ seen g s x)
     → LogsAndImages (with_clerk g c age.boot (record k { got = k.got + 1; asking = None; ids = k.ids ++ run first 16; cache = m }) calls [])
 
@@ -149,5 +149,5 @@ pub record MayHold (g : System) (s : ℕ) (k now : Clerk) : Type 0 where
   pub images : (x : ℕ) (o : Held) → at x now.cache.held ≡ Some o → o.image ≡ seen g s x
 
 abbrev pub HeldMayChange : Type 0
-HeldMayChange = (g : System) → Agrees g → (c s : ℕ) (age : Age) (k now : Clerk) → IsInIt g c s age k → now.session ≡ Some s → now.log ≡ k.log → (calls : Calls) (ms : List (ℕ × Msg))
+HeldMayChange = (g : System) → BatchFacts g → (c s : ℕ) (age : Age) (k now : Clerk) → IsInIt g c s age k → now.session ≡ Some s → now.log ≡ k.log → (calls : Calls) (ms : List (ℕ × Msg))
     → MayHold g s k now → let h = with_clerk g c age.boot now calls ms in Each (λ m. log.Fits h m.1) ms → LogsAndImages h

@@ -32,7 +32,7 @@ ops_next g c b cl k = op_given c b (length g.ghost.shown + 1) k (verdict cl k)
 abbrev pub after_answer : System → ℕ → ℕ → Clerk → Doing → ℕ → Call → Answer → Option ℕ → System
 after_answer g c b k d l cl a op = doing_in c b d (answered_ghost c l cl a op (fresh_of k) (ops_next g c b cl k) g.ghost) g
 
-pub record Comes (g : System) (c b : ℕ) (k : Clerk) (d : Doing) (l : ℕ) (cl : Call) (a : Answer) (op : Option ℕ) : Type 0 where
+pub record AnswerComes (g : System) (c b : ℕ) (k : Clerk) (d : Doing) (l : ℕ) (cl : Call) (a : Answer) (op : Option ℕ) : Type 0 where
   -- the machine's: the answer is the verdict's, and the clerk is changed so
   pub gives : Gives g.durable.max_objects k (verdict cl k) a op d.clerk.owed
   pub age : d.clerk.age ≡ k.age
@@ -48,7 +48,7 @@ pub record Comes (g : System) (c b : ℕ) (k : Clerk) (d : Doing) (l : ℕ) (cl 
   pub unseen : (s : ℕ) (ks : List Op) → g.ghost.frozen s ≡ Some ks → Each (λ o. T (list_any (λ j. same_op j o) ks) → ⊥) (ops_next g c b cl k)
 
 -- The durable operations are told by start and number; starts stand above the first boots; a clerk's free ids are no operands of others.
-pub record Marked (g : System) (c : ℕ) (k : Clerk) : Type 0 where
+pub record DurableAreMarked (g : System) (c : ℕ) (k : Clerk) : Type 0 where
   pub alike : (i j : Op) → i.clerk ≡ j.clerk → i.boot ≡ j.boot → i.number ≡ j.number → g.ghost.is_durable i ≡ g.ghost.is_durable j
   pub above : Each (λ o. g.first_boot o.clerk < o.boot) g.ghost.kept
   pub opened : (s : ℕ) (o : ℕ × Age) → g.ghost.owner s ≡ Some o → T (is_open g s) → g.first_boot o.0 < (o.1).boot

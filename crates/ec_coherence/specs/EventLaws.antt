@@ -17,7 +17,7 @@ use Rattle.ec_coherence.specs.Tokens.{TokensAgree, view}
 use Rattle.ec_coherence.specs.Log.{HasWrites}
 use Rattle.ec_coherence.specs.Events.{EventsAgree, CutAgrees, shown_boot}
 use Rattle.ec_coherence.specs.Answers.{IsAnswered, IsLive, Sees, Gives, fresh_of, based}
-use Rattle.ec_coherence.specs.Comes.{Comes, Marked, entry_next, begun_at, after_answer}
+use Rattle.ec_coherence.specs.Comes.{AnswerComes, DurableAreMarked, entry_next, begun_at, after_answer}
 
 -- an answer of a clerk that isn't cut off may stand at the end of the history, in real ids, and leaves owed what the clerk owes then
 abbrev pub AnswersStand : Type 0
@@ -28,11 +28,11 @@ AnswersStand = (g : System) (c b : ℕ) (k : Clerk) → EventsAgree g → g.runn
 -- behind it all facts of histories stand
 abbrev pub AnswersKeep : Type 0
 AnswersKeep = (g : System) (c b : ℕ) (k : Clerk) (d : Doing) (l : ℕ) (cl : Call) (a : Answer) (op : Option ℕ) → EventsAgree g → g.running c ≡ Some b → g.clerks c b ≡ Some k → IsLive g c k → Sees g k
-    → Comes g c b k d l cl a op → EventsAgree (after_answer g c b k d l cl a op)
+    → AnswerComes g c b k d l cl a op → EventsAgree (after_answer g c b k d l cl a op)
 
 -- the answer of an open session's clerk touches no operand of what another open session may lose
 abbrev pub AnswersLeaveOthers : Type 0
-AnswersLeaveOthers = (g : System) → EventsAgree g → TokensAgree (view g) → Each (λ o. T (not (g.ghost.is_durable o)) → HasWrites g o) g.ghost.kept → (c b s : ℕ) (age : Age) (k : Clerk) → Marked g c k
+AnswersLeaveOthers = (g : System) → EventsAgree g → TokensAgree (view g) → Each (λ o. T (not (g.ghost.is_durable o)) → HasWrites g o) g.ghost.kept → (c b s : ℕ) (age : Age) (k : Clerk) → DurableAreMarked g c k
     → clerk_in g s ≡ Some k → T (is_open g s) → g.ghost.owner s ≡ Some (c, age) → g.running c ≡ Some b → g.clerks c b ≡ Some k → IsLive g c k → Sees g k
     → (most l : ℕ) (cl : Call) (a : Answer) (op : Option ℕ) (rest : Owed) → Gives most k (verdict cl k) a op rest → (u : ℕ) (o : ℕ × Age) → g.ghost.owner u ≡ Some o → T (is_open g u) → (o.0 == c) ≡ false
     → T (leaves (based g (fresh_of k)) (kept (based g (fresh_of k)) g.ghost.history) o.0 (filter (is_one_of o.0 (shown_boot g o.0 (o.1).boot) (numbers (undurable g.ghost u))) (kept (based g (fresh_of k)) g.ghost.history)) (entry_next g c b l cl a op))

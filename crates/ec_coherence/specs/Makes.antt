@@ -10,7 +10,7 @@ use Rattle.ec_protocol.specs.Server.{Serving, end, serving, take}
 use Rattle.ec_protocol.specs.declared.server.Server.{Server}
 use Rattle.ec_coherence.specs.System.{System, Ghost}
 use Rattle.ec_coherence.specs.Steps.{give_ids, open_session, serving_in}
-use Rattle.ec_coherence.specs.CommitLaws.{AllAgree, Stands, show_batch}
+use Rattle.ec_coherence.specs.CommitLaws.{AllAgree, StepStands, show_batch}
 use Rattle.ec_coherence.specs.Ends.{show_end}
 
 -- the system in which the step begins
@@ -30,7 +30,7 @@ Makes g v (Some (Epoch e)) γ = ⊥
 
 -- the step is refused, because a counter is spent, or stands, with these ghosts
 abbrev pub IsMade : System → Server → Serving → Type 0
-IsMade g v f = T (is_some f.spent) ⊎ ((γ : Ghost) × Stands g f γ × Makes g v f.rec γ)
+IsMade g v f = T (is_some f.spent) ⊎ ((γ : Ghost) × StepStands g f γ × Makes g v f.rec γ)
 
 -- a running server takes any message that was sent
 abbrev pub TakesMake : Type 0

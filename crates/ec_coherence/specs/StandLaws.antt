@@ -25,12 +25,12 @@ use Rattle.ec_coherence.specs.Log as log
 use Rattle.ec_coherence.specs.Log.{OfOpen}
 use Rattle.ec_coherence.specs.Steps.{UnderClerk, doing_in}
 use Rattle.ec_coherence.specs.ChangeLaws.{Calls, IsInIt, LogsAndImages, with_clerk}
-use Rattle.ec_coherence.specs.CommitLaws.{AllAgree, Stands}
+use Rattle.ec_coherence.specs.CommitLaws.{AllAgree, StepStands}
 use Rattle.ec_coherence.specs.Starts.{Greets, StartsAgree}
 use Rattle.ec_coherence.specs.Watches.{FirstsAgree, WatchesAgree}
 
 -- The start goes on in its session: what the lines show of it stays.
-pub record GoesOn (k now : Clerk) : Type 0 where
+pub record SessionGoesOn (k now : Clerk) : Type 0 where
   pub id : now.id ≡ k.id
   pub age : now.age ≡ k.age
   pub session : now.session ≡ k.session
@@ -43,12 +43,12 @@ AreSent g ms = Each (λ m. sessions.Fits g m.0 m.1 × T (is_sound m.1) × Greets
 
 -- where the facts on tokens, logs and images hold behind a change, all do
 abbrev pub ChangesStand : Type 0
-ChangesStand = (g : System) → AllAgree g → (c s : ℕ) (age : Age) (k now : Clerk) → IsInIt g c s age k → GoesOn k now → (calls : Calls) (ms : List (ℕ × Msg)) → AreSent g ms
+ChangesStand = (g : System) → AllAgree g → (c s : ℕ) (age : Age) (k now : Clerk) → IsInIt g c s age k → SessionGoesOn k now → (calls : Calls) (ms : List (ℕ × Msg)) → AreSent g ms
     → TokensAgree (view (with_clerk g c age.boot now calls ms)) → LogsAndImages (with_clerk g c age.boot now calls ms) → AllAgree (with_clerk g c age.boot now calls ms)
 
 -- Of what no family reads of a clerk (what it wanted, pushes, asked, and its waiting calls) any change may be made, with messages of which the facts hold.
 abbrev pub RestsStand : Type 0
-RestsStand = (g : System) → AllAgree g → (c s : ℕ) (age : Age) (k now : Clerk) → IsInIt g c s age k → GoesOn k now → side now ≡ side k → now.ids ≡ k.ids → now.log ≡ k.log
+RestsStand = (g : System) → AllAgree g → (c s : ℕ) (age : Age) (k now : Clerk) → IsInIt g c s age k → SessionGoesOn k now → side now ≡ side k → now.ids ≡ k.ids → now.log ≡ k.log
     → (calls : Calls) (ms : List (ℕ × Msg)) → AreSent g ms → Each (λ m. Fits (view g) m.1) ms → Each (λ m. log.Fits (with_clerk g c age.boot now calls ms) m.1) ms
     → AllAgree (with_clerk g c age.boot now calls ms)
 
@@ -69,7 +69,7 @@ BeginsStand = (g : System) → AllAgree g → (c b : ℕ) (k : Clerk) → g.runn
 -- and goes on in its session, where tokens, logs and images agree
 abbrev pub GoesOnStand : Type 0
 GoesOnStand = (g : System) (c b s : ℕ) (d : Doing) (γ : Ghost) → ClerkStands g c b d γ → (age : Age) → γ.owner s ≡ Some (c, age) → age.boot ≡ b → d.clerk.session ≡ Some s
-    → (now : Clerk) → GoesOn d.clerk now → (ms : List Msg) → AreSent (doing_in c b d γ g) (map (λ m. (c, m)) ms)
+    → (now : Clerk) → SessionGoesOn d.clerk now → (ms : List Msg) → AreSent (doing_in c b d γ g) (map (λ m. (c, m)) ms)
     → TokensAgree (view (doing_in c b (sending now ms d) γ g)) → LogsAndImages (doing_in c b (sending now ms d) γ g) → ClerkStands g c b (sending now ms d) γ
 
 -- Whole functions of a clerk that is in a session.
@@ -138,7 +138,7 @@ StopsStand = (g : System) → AllAgree g → (v : Server) → g.server ≡ Some 
 
 -- a stopped server starts, where no record is in doubt
 abbrev pub StartsStand : Type 0
-StartsStand = (g : System) → AllAgree g → g.server ≡ None → g.unshown ≡ None → T (is_some (start g.durable).spent) ⊎ ((γ : Ghost) × Stands g (start g.durable) γ)
+StartsStand = (g : System) → AllAgree g → g.server ≡ None → g.unshown ≡ None → T (is_some (start g.durable).spent) ⊎ ((γ : Ghost) × StepStands g (start g.durable) γ)
 
 -- a line is shown that says nothing of clerks
 abbrev pub lined : System → Shown → System

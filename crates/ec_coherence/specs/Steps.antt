@@ -131,11 +131,11 @@ pub record UnderClerk (g : System) (c b : ℕ) (d : Doing) (γ : Ghost) : Type 0
   pub shown : γ.shown ≡ g.ghost.shown ++ out_lines c d.outs g.calls
   pub invariant : Invariant (doing_in c b d γ g)
 
-abbrev pub Does : System → ℕ → ℕ → Doing → Type 0
-Does g c b d = T (is_some d.spent) ⊎ ((γ : Ghost) × UnderClerk g c b d γ)
+abbrev pub DoesStep : System → ℕ → ℕ → Doing → Type 0
+DoesStep g c b d = T (is_some d.spent) ⊎ ((γ : Ghost) × UnderClerk g c b d γ)
 
 abbrev pub ClerkKeeps : (Doing → Doing) → Type 0
-ClerkKeeps f = (g : System) (c b : ℕ) (d : Doing) → Does g c b d → Does g c b (f d)
+ClerkKeeps f = (g : System) (c b : ℕ) (d : Doing) → DoesStep g c b d → DoesStep g c b (f d)
 
 -- The world.
 

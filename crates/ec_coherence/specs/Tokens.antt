@@ -167,13 +167,13 @@ abbrev pub WantFits : ℕ → ℕ → Hold → ℕ → Option Held → ℕ → T
 WantFits epoch e h n held l = e ≡ epoch → (n ≤ l) × HeldBelow held n h
 
 -- of a noted want, the clerk knows the recorded token and holds less than is wanted
-abbrev pub Lacks : Option Held → ℕ → Hold → Type 0
-Lacks None n h = ⊤
-Lacks (Some k) n h = (k.number ≡ n) × (rank k.hold < rank h)
+abbrev pub LacksMode : Option Held → ℕ → Hold → Type 0
+LacksMode None n h = ⊤
+LacksMode (Some k) n h = (k.number ≡ n) × (rank k.hold < rank h)
 
 abbrev pub NotedFits : Hold → Option Token → Option Held → ℕ → Type 0
 NotedFits h None held l = held ≡ None
-NotedFits h (Some t) held l = (t.number ≤ l) × Lacks held t.number h
+NotedFits h (Some t) held l = (t.number ≤ l) × LacksMode held t.number h
 
 -- sixteen ids that go to the clerk are its own Write tokens, new to it, and of no live object
 abbrev pub IdFits : ℕ → ℕ → Option Held → Option Eff → Image → ℕ → Type 0
@@ -237,9 +237,9 @@ abbrev pub Noted : View → Tables → want.Want → Type 0
 Noted w v q = Wanted w v q.session q.obj q.hold
 
 -- no two wants are of one session for one object
-abbrev pub AreApart : List want.Want → Type 0
-AreApart [] = ⊤
-AreApart (q ∷ qs) = Each (λ r. T (not (is_of q.session q.obj r))) qs × AreApart qs
+abbrev pub WantsAreDistinct : List want.Want → Type 0
+WantsAreDistinct [] = ⊤
+WantsAreDistinct (q ∷ qs) = Each (λ r. T (not (is_of q.session q.obj r))) qs × WantsAreDistinct qs
 
 pub record TablesAgree (w : View) (v : Tables) : Type 0 where
   -- no two recorded tokens conflict, and none is Free
@@ -250,7 +250,7 @@ pub record TablesAgree (w : View) (v : Tables) : Type 0 where
   pub others : (s x : ℕ) → T (not (member s v.claimed)) → (tokens.token v.tokens s x ≡ None) × (T (w.is_open s) → IsEarlier w.epoch (w.old s x))
   -- each want that is noted may be granted, and a session has one for an object
   pub wants : Each (Noted w v) v.recalls
-  pub apart : AreApart v.recalls
+  pub apart : WantsAreDistinct v.recalls
   -- each recorded number was given out
   pub numbers : (s x : ℕ) (t : Token) → tokens.token v.tokens s x ≡ Some t → t.number ≤ v.number
   -- the last ids, as they were recorded in this epoch, may go out again

@@ -11,7 +11,7 @@ use Rattle.ec_laws.specs.Renaming.{IsRenaming}
 use Rattle.ec_laws.specs.Renamed.{IsRenamed, issued_update_by, outcome_by, update_by}
 use Rattle.ec_laws.proofs.Calls.{plain-by}
 use Rattle.ec_laws.proofs.Shapes.{after-by}
-use Rattle.ec_machine_laws.specs.Answers.{Asking, Plainly, after_call, answers_to, first_of, none_yet, number_of, outcome_on}
+use Rattle.ec_machine_laws.specs.Answers.{Asking, Plainly, after_call, answers_to, first_number, none_yet, operation_number, outcome_on}
 use Rattle.ec_complete.specs.Ids.{behind_calls}
 
 module _ (r : ℕ → ℕ) (ren : IsRenaming r) (zero-stays : r 0 ≡ 0) (v : Images) (same : IsRenamed r v v) where
@@ -20,7 +20,7 @@ module _ (r : ℕ → ℕ) (ren : IsRenaming r) (zero-stays : r 0 ≡ 0) (v : Im
     updates : t.updates ≡ map (update_by r) s.updates
     issued : (c : ℕ) → t.issued c ≡ s.issued c
 
-  first-by : (ids : List ℕ) → first_of (map r ids) ≡ r (first_of ids)
+  first-by : (ids : List ℕ) → first_number (map r ids) ≡ r (first_number ids)
   first-by [] = sym zero-stays
   first-by (id ∷ ids) = refl
 
@@ -32,8 +32,8 @@ module _ (r : ℕ → ℕ) (ren : IsRenaming r) (zero-stays : r 0 ≡ 0) (v : Im
   mapped-more [] u = refl
   mapped-more (x ∷ us) u = ap (λ l. update_by r x ∷ l) (mapped-more us u)
 
-  outcome-by : (s t : Plainly) → Alike s t → (cl : Call) (ids : List ℕ) → outcome_on v t cl (first_of (map r ids)) ≡ outcome_by r (outcome_on v s cl (first_of ids))
-  outcome-by s t a cl ids = (λ z. Rattle.ec_plain.specs.Plain.plain (after v (a.updates z)) cl (first-by ids z)) ∙ plain-by r ren (after v s.updates) (after v (map (update_by r) s.updates)) (after-by r ren v v same s.updates) cl (first_of ids)
+  outcome-by : (s t : Plainly) → Alike s t → (cl : Call) (ids : List ℕ) → outcome_on v t cl (first_number (map r ids)) ≡ outcome_by r (outcome_on v s cl (first_number ids))
+  outcome-by s t a cl ids = (λ z. Rattle.ec_plain.specs.Plain.plain (after v (a.updates z)) cl (first-by ids z)) ∙ plain-by r ren (after v s.updates) (after v (map (update_by r) s.updates)) (after-by r ren v v same s.updates) cl (first_number ids)
 
   -- behind one more call, and its number
   goes-on : (s t : Plainly) → Alike s t → (c : ℕ) (u : Option Update) → Alike (after_call s c u) (after_call t c (issued_update_by r u))
@@ -47,7 +47,7 @@ module _ (r : ℕ → ℕ) (ren : IsRenaming r) (zero-stays : r 0 ≡ 0) (v : Im
       counted d true = ap (λ n. n + 1) (a.issued d)
       counted d false = a.issued d
 
-  number-by : (s t : Plainly) → Alike s t → (c : ℕ) (u : Option Update) → number_of t c (issued_update_by r u) ≡ number_of s c u
+  number-by : (s t : Plainly) → Alike s t → (c : ℕ) (u : Option Update) → operation_number t c (issued_update_by r u) ≡ operation_number s c u
   number-by s t a c None = refl
   number-by s t a c (Some u) = ap (λ n. Some (n + 1)) (a.issued c)
 
@@ -61,16 +61,16 @@ module _ (r : ℕ → ℕ) (ren : IsRenaming r) (zero-stays : r 0 ≡ 0) (v : Im
   -- one call, and those behind it
   module _ (s t : Plainly) (a : Alike s t) (ids : List ℕ) (q : Asking) (qs : List Asking) where
     abbrev o : Outcome
-    o = outcome_on v s q.2 (first_of ids)
+    o = outcome_on v s q.2 (first_number ids)
 
     abbrev p : Outcome
-    p = outcome_on v t q.2 (first_of (map r ids))
+    p = outcome_on v t q.2 (first_number (map r ids))
 
     is : p ≡ outcome_by r o
     is = outcome-by s t a q.2 ids
 
-    number : number_of t q.1 p.update ≡ number_of s q.1 o.update
-    number = ap (λ (x : Outcome). number_of t q.1 x.update) is ∙ number-by s t a q.1 o.update
+    number : operation_number t q.1 p.update ≡ operation_number s q.1 o.update
+    number = ap (λ (x : Outcome). operation_number t q.1 x.update) is ∙ number-by s t a q.1 o.update
 
     next : Alike (after_call s q.1 o.update) (after_call t q.1 p.update)
     next = subst (λ (x : Outcome). Alike (after_call s q.1 o.update) (after_call t q.1 x.update)) (sym is) (goes-on s t a q.1 o.update)

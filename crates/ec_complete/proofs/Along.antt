@@ -28,14 +28,14 @@ use Rattle.ec_quiet.specs.Quiet.{IsIdle}
 use Rattle.ec_quiet.specs.Scenes as scenes
 use Rattle.ec_quiet.specs.Scenes.{IsScene, Mail, Scene, delivered, is_for_server, taken_by}
 use Rattle.ec_quiet.specs.Works.{Work}
-use Rattle.ec_quiet.specs.Bounds.{IsFirst}
+use Rattle.ec_quiet.specs.Bounds.{IsFirstPhase}
 use Rattle.ec_quiet.specs.SettlingScenes.{Reaches, here, on}
 use Rattle.ec_deliveries.specs.Runs.{HasEnded, HasSettled}
 use Rattle.ec_complete.specs.Begins.{bound_for, most_sent}
 use Rattle.ec_complete.specs.Complete.{IsFaultless}
 use Rattle.ec_complete.proofs.Numbers.{Below, later}
-use Rattle.ec_complete.specs.Worlds.{IsCounted, IsEarly, IsKnown, Outset}
-use Rattle.ec_complete.specs.Goes.{GoesOn, GoesThrough, IsWorkOf}
+use Rattle.ec_complete.specs.Worlds.{IsCounted, IsEarly, LineIsKnown, Outset}
+use Rattle.ec_complete.specs.Goes.{LineGoesOn, GoesThrough, IsWorkOf}
 use Rattle.ec_complete.specs.Ready.{IsReady, calls_of, line_sends}
 use Rattle.ec_complete.proofs.Boots.{delivery-alike, first-rises}
 use Rattle.ec_complete.proofs.Counts.{calls-then, counted-more, own-made}
@@ -65,7 +65,7 @@ more w n = go w.server refl
         (λ v f. (omega (arith, ap (λ (x : Server). x.number) (same_some (sym e ∙ f))), omega (arith, ap (λ (x : Server). x.durable.next_session) (same_some (sym e ∙ f)))))).1
 
 -- A delivery in a line whose work is known.
-module _ (outset : Outset) (names : List ℕ) (number : ℕ) (j : Work) (r : Moving) (known : IsKnown outset j number r) where
+module _ (outset : Outset) (names : List ℕ) (number : ℕ) (j : Work) (r : Moving) (known : LineIsKnown outset j number r) where
   abbrev z : Scene
   z = known.scene
 
@@ -121,7 +121,7 @@ module _ (outset : Outset) (v : Images) (most : ℕ) (names : List ℕ) (number 
 
   -- all facts hold, the lines are of the calls so far, and each clerk started once at most in the line
   record IsAlong (u : World) : Type 0 where
-    holds : steps.Holds F u
+    holds : steps.HoldsIn F u
     of : AreOf (Below (number + 1)) u
     boots : (a : ℕ) → boot a u ≤ boot a w + 1
 
@@ -205,7 +205,7 @@ module _ (outset : Outset) (v : Images) (most : ℕ) (names : List ℕ) (number 
     few-sent = omega (arith, sent-on, few)
 
     -- where the line's work is known
-    module _ (j : Work) (known : IsKnown outset j number m) where
+    module _ (j : Work) (known : LineIsKnown outset j number m) where
       walks : (u : Moving) → Reaches m u → u.world.sent ≤ most_sent → Tame u.world
       walks u here le = (step.calls, step.named)
       walks _ (on u i reached is-due fine) le =
@@ -215,7 +215,7 @@ module _ (outset : Outset) (v : Images) (most : ℕ) (names : List ℕ) (number 
           at-most : (u : Moving) (n : ℕ) → (deliver runs n u.world).fault ≡ None → u.world.sent ≤ (deliver runs n u.world).world.sent → (onward u (deliver runs n u.world)).world.sent ≤ most_sent → u.world.sent ≤ most_sent
           at-most u n f more l = let same = ap (λ (x : Moving). x.world.sent) (onward-is u n f) in omega (arith, more, l, same)
 
-      end : IsKnown outset j number r
+      end : LineIsKnown outset j number r
       end = lines-stay-known outset j number m r known few settled.reached few-sent
 
       servers : settled.scene.server ≡ end.scene.server
@@ -238,11 +238,11 @@ module _ (outset : Outset) (v : Images) (most : ℕ) (names : List ℕ) (number 
         counted = counted-more outset (number - 1) number w m.world q.scene (omega arith) (omega (arith, counts number w l faultless, idle.none-pending outset v most names number w q))
             (i.server ∙ sym q.stands.server) (i.clerks ∙ sym q.stands.clerks) q.counted
 
-    next : ((j : Work) × IsWorkOf l w q.scene q.system j × (k : IsKnown outset j number m) × IsFirst k.phase) ⊎ IsScene m.world q.scene → Next r.world
+    next : ((j : Work) × IsWorkOf l w q.scene q.system j × (k : LineIsKnown outset j number m) × IsFirstPhase k.phase) ⊎ IsScene m.world q.scene → Next r.world
     next (inl (j, of, known, first)) = next-known j known
     next (inr i) = next-idle i
 
-  pub goes-on : GoesOn outset v most names number l w q
+  pub goes-on : LineGoesOn outset v most names number l w q
   goes-on = record { new = idle.is-new outset v most names number w q; fine = step.fine; known = step.known; started = step.started; ends = ends.0; ended = ends.1; next = λ settled. next settled step.known }
 
   -- where counters were far below their limits

@@ -26,7 +26,7 @@ use Rattle.ec_deliveries.specs.Runs.{HasSettled}
 use Rattle.ec_deliveries.proofs.Lines.{line-settles}
 use Rattle.ec_complete.specs.Complete.{IsFaultless, IsFaultlessRead}
 use Rattle.ec_complete.specs.SettledRuns.{EachSettles}
-use Rattle.ec_complete.specs.Begins.{Begins, EachBegins, IsBegun, RunsSettle, bound_for, most_sent}
+use Rattle.ec_complete.specs.Begins.{BeginsLine, EachBegins, IsBegun, RunsSettle, bound_for, most_sent}
 use Rattle.ec_quiet.proofs.Settled.{stops}
 
 -- The first step of a line.
@@ -89,10 +89,10 @@ module _ (k : ℕ) (sixteen : k ≤ 16) where
         let none : due m.world ≡ None = delivering.none-due m.world sc i idle.mail in
         subst (HasSettled b m) (sym (stops b m none)) (record { reached = here; none = none; fault = fine; sent = omega arith; shown = shown; scene = sc; stands = i; idle = idle })
 
-    few-first : (begun : Begins k m) → pending m.world ≤ b + 2
+    few-first : (begun : BeginsLine k m) → pending m.world ≤ b + 2
     few-first q = omega (arith, pending-is m.world q.scene q.stands, few q.work q.scene q.first.phase q.first.comes, measure-most q.work q.scene q.first.phase k q.first.first q.first.none_back q.few q.rows q.unsent)
 
-    begins : IsSent → most + 139266 + 69634 ≤ most_sent → (q : Begins k m) → HasSettled b m (settle b [] m)
+    begins : IsSent → most + 139266 + 69634 ≤ most_sent → (q : BeginsLine k m) → HasSettled b m (settle b [] m)
     begins sent room q = line-settles q.work k most_sent m q.scene q.can fine shown q.stands q.first q.few q.rows q.unsent (omega (arith, sent, few-first q, room, few-deliveries))
 
     settles : IsSent → most + 139266 + 69634 ≤ most_sent → IsBegun k m → HasSettled b m (settle b [] m)

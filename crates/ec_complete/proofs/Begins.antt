@@ -16,13 +16,13 @@ use Rattle.ec_coherence.specs.System.{System}
 use Rattle.ec_lawful.specs.Steps.{IsNewIn}
 use Rattle.ec_quiet.specs.Scenes.{IsScene, Scene}
 use Rattle.ec_quiet.specs.Works.{Work}
-use Rattle.ec_quiet.specs.Bounds.{IsFirst}
+use Rattle.ec_quiet.specs.Bounds.{IsFirstPhase}
 use Rattle.ec_complete.specs.WaitingCalls.{kept_volume}
 use Rattle.ec_complete.specs.Lines.{next_object}
 use Rattle.ec_complete.specs.LineCalls.{IsCalled, IsCalledFirst}
 use Rattle.ec_complete.specs.Complete.{IsFaultless}
-use Rattle.ec_complete.specs.Worlds.{IsKnown, Outset}
-use Rattle.ec_complete.specs.Goes.{GoesOn, IsWorkOf}
+use Rattle.ec_complete.specs.Worlds.{LineIsKnown, Outset}
+use Rattle.ec_complete.specs.Goes.{LineGoesOn, IsWorkOf}
 use Rattle.ec_complete.specs.Ready.{IsReady}
 use Rattle.ec_complete.specs.Following.{BeginsBehind, IsUncalled}
 use Rattle.ec_complete.proofs.CallsFollowed.{call-begins}
@@ -43,7 +43,7 @@ module _ (outset : Outset) (v : Images) (most : ℕ) (names : List ℕ) (number 
     Called = ((sl : Slot) × (k : Clerk) × IsCalled j cl w sc g sl k) ⊎ IsCalledFirst j cl w sc g
 
     abbrev Begins : ℕ → Type 0
-    Begins c = (call c number cl w).fault ≡ None → (k : IsKnown outset j number (call c number cl w)) → IsFirst k.phase → Called → BeginsBehind outset (line.Call c cl) v (kept_volume g) j number (call c number cl w)
+    Begins c = (call c number cl w).fault ≡ None → (k : LineIsKnown outset j number (call c number cl w)) → IsFirstPhase k.phase → Called → BeginsBehind outset (line.Call c cl) v (kept_volume g) j number (call c number cl w)
 
     own : Begins j.clerk
     own fine k first called = subst (λ o. BeginsBehind outset (line.Call j.clerk cl) o (kept_volume g) j number (call j.clerk number cl w)) q.facts.origin (by called)
@@ -58,7 +58,7 @@ module _ (outset : Outset) (v : Images) (most : ℕ) (names : List ℕ) (number 
   -- A push.
   module _ (n : ℕ) (j : Work) where
     abbrev Goes : ℕ → Type 0
-    Goes c = (push c n (at c w.clerks) w).fault ≡ None → IsWorkOf (line.Push c n) w sc g j → IsKnown outset j number (push c n (at c w.clerks) w) → IsAtWorkOrIdle outset (line.Push c n) v number (push c n (at c w.clerks) w)
+    Goes c = (push c n (at c w.clerks) w).fault ≡ None → IsWorkOf (line.Push c n) w sc g j → LineIsKnown outset j number (push c n (at c w.clerks) w) → IsAtWorkOrIdle outset (line.Push c n) v number (push c n (at c w.clerks) w)
 
     own-push : Goes j.clerk
     own-push fine of k = by (push-begins outset j n w sc g of.2 of.3 (kept_volume g) number q.facts.whole q.in_system q.stands q.idle q.order of.4 of.1 fine k.scene k.stands k.counted uncalled)
@@ -73,10 +73,10 @@ module _ (outset : Outset) (v : Images) (most : ℕ) (names : List ℕ) (number 
     push-goes : (c : ℕ) → j.clerk ≡ c → Goes c
     push-goes c e = subst Goes e own-push
 
-  pub goes-behind : (l : Line) → IsFaultless l → GoesOn outset v most names number l w q → IsAtWorkOrIdle outset l v number (line_happens runs number l w)
+  pub goes-behind : (l : Line) → IsFaultless l → LineGoesOn outset v most names number l w q → IsAtWorkOrIdle outset l v number (line_happens runs number l w)
   goes-behind l a goes = by l a goes.fine goes.new goes.known
     where
-      by : (l : Line) → IsFaultless l → (line_happens runs number l w).fault ≡ None → IsNewIn w number → ((j : Work) × IsWorkOf l w sc g j × (k : IsKnown outset j number (line_happens runs number l w)) × IsFirst k.phase) ⊎ IsScene (line_happens runs number l w).world sc → IsAtWorkOrIdle outset l v number (line_happens runs number l w)
+      by : (l : Line) → IsFaultless l → (line_happens runs number l w).fault ≡ None → IsNewIn w number → ((j : Work) × IsWorkOf l w sc g j × (k : LineIsKnown outset j number (line_happens runs number l w)) × IsFirstPhase k.phase) ⊎ IsScene (line_happens runs number l w).world sc → IsAtWorkOrIdle outset l v number (line_happens runs number l w)
       by l a fine new (inr i) = inr (sc, i, q.idle)
       by (line.Call c cl) a fine new (inl (j, of, k, first)) = inl (kept_volume g, j, call-goes cl j new c of.0 fine k first of.1)
       by (line.Push c n) a fine new (inl (j, of, k, first)) = push-goes n j c of.0 fine of k

@@ -17,7 +17,7 @@ use Rattle.ec_machine_laws.proofs.Once.{fewer}
 use Rattle.ec_protocol.specs.declared.clerk.Clerk.{Clerk}
 use Rattle.ec_protocol.specs.declared.world.World.{World}
 use Rattle.ec_coherence.specs.Invariant.{Invariant}
-use Rattle.ec_coherence.specs.Log.{IdsAgree, makes}
+use Rattle.ec_coherence.specs.Log.{IdsAgree, made_by}
 use Rattle.ec_coherence.specs.System.{System, clerk_in, undurable}
 use Rattle.ec_coherence.specs.Tokens.{side, side_in}
 use Rattle.ec_coherence.proofs.Ids.{in-back, in-front}
@@ -110,7 +110,7 @@ module _ (number session first calls : ℕ) (j : Work) (w : World) (sc : Scene) 
 
         stored : (x : ℕ) → T (member x k.ids) → T (member x (stored_ids g.durable))
         stored x m = in-back x (keys g.durable.volume) (all_unspent g.durable.sessions) (in-store x c sl g.durable.sessions at-slot
-            (each-at (λ y. T (member y sl.unspent)) x (k.ids ++ makes (updates (undurable g.ghost sl.session))) ids.free (in-front x k.ids (makes (updates (undurable g.ghost sl.session))) m)))
+            (each-at (λ y. T (member y sl.unspent)) x (k.ids ++ made_by (updates (undurable g.ghost sl.session))) ids.free (in-front x k.ids (made_by (updates (undurable g.ghost sl.session))) m)))
 
     took : g.ghost.grants sl.session ≤ k.got + 1
     took = (inv.tokens.got sl.session (side k) (ap side_in in-it)).3

@@ -20,7 +20,7 @@ use Rattle.ec_quiet.specs.Measure.{sum}
 use Rattle.ec_quiet.specs.Phases.{Phase, Greets, Opens, Claims, Wants, Recalls, Flushes, Keeps, Grants, Asks, Gives, Refuses, Saves, Saved, Ends, InPhase, backs}
 use Rattle.ec_quiet.specs.Scenes.{IsScene, Mail, Scene, done_by, sends}
 use Rattle.ec_quiet.specs.Works.{Calls, HasTask, Work}
-use Rattle.ec_quiet.specs.Bounds.{IsFirst}
+use Rattle.ec_quiet.specs.Bounds.{IsFirstPhase}
 use Rattle.ec_quiet.specs.Frames.{IsAsked}
 use Rattle.ec_quiet.specs.Goes.{MayGo}
 use Rattle.ec_agreed_lines.specs.Counting as clerks
@@ -30,7 +30,7 @@ use Rattle.ec_complete.specs.WaitingCalls.{kept_volume, touched_by}
 use Rattle.ec_complete.specs.Lines.{IsOnLine, next_object}
 use Rattle.ec_complete.specs.FirstSteps.{IsTold}
 use Rattle.ec_complete.specs.LineCalls.{IsCalled}
-use Rattle.ec_complete.specs.Worlds.{IsCounted, IsKnown, Outset}
+use Rattle.ec_complete.specs.Worlds.{IsCounted, LineIsKnown, Outset}
 use Rattle.ec_complete.specs.Goes.{IsStarted}
 use Rattle.ec_complete.specs.Ready.{IsReady, calls_of}
 use Rattle.ec_complete.proofs.Counts.{calls-then, counted-then, one-asked, own-made, sends-out, unsent-less}
@@ -56,7 +56,7 @@ told (Gives got n first) a = absurd a
 told (Refuses again ask live reserved) a = absurd a
 told (Saved b rest) a = absurd a
 
-early : (p : Phase) → IsAsked p → IsFirst p
+early : (p : Phase) → IsAsked p → IsFirstPhase p
 early (Wants x h n) a = tt
 early (Asks again got ask) a = tt
 early (Saves b ops rest) a = tt
@@ -152,7 +152,7 @@ module _ (outset : Outset) (v : Images) (most : ℕ) (names : List ℕ) (number 
   counted = counted-then w m.world sc q.stands q.idle.mail c d carried.1 (calls-send w c number cl) outset (number - 1) number (omega arith) q.counted
       (subst (λ n. clerks.IsCounted n (w.sent + sent_in d.outs) d.clerk) next-number (calls-count (number - 1) w.sent cl k count called.calls))
 
-  abbrev known : IsKnown outset j number m
+  abbrev known : LineIsKnown outset j number m
   known = record { scene = now; stands = carried.1; phase = begun.phase; comes = begun.comes; system = on.0; facts = on.1; counted = counted }
 
   one-more : d.clerk.calls ≤ k.calls + 1
@@ -167,7 +167,7 @@ module _ (outset : Outset) (v : Images) (most : ℕ) (names : List ℕ) (number 
   of-session : (t : Slot) → slot sc.server.durable c ≡ Some t → t.is_open ≡ true → t.session ≡ sl.session
   of-session t e f = ap (λ z. z.session) (same_some (sym e ∙ i.inside.there))
 
-  waits : (p : Phase) → IsFirst p → InPhase j now p → backs j now.mail ≡ [] → (x : Clerk) → at c now.clerks ≡ Some x → 1 ≤ length x.waiting → IsStarted outset (length (once names)) number m
+  waits : (p : Phase) → IsFirstPhase p → InPhase j now p → backs j now.mail ≡ [] → (x : Clerk) → at c now.clerks ≡ Some x → 1 ≤ length x.waiting → IsStarted outset (length (once names)) number m
   waits p f comes none x e one = work-begins outset names number j m now carried.1 known on.1.few named p f comes none (subst (λ o. T (is_some o)) (sym e) tt) of-session
       (omega (arith, unsent-less j number m.world.sent c x now.clerks comes.orderly.rising e one (λ a y f. counted.clerks a y (ap (at a) carried.1.clerks ∙ f)), made, few))
 

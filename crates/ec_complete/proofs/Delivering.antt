@@ -31,7 +31,7 @@ use Rattle.ec_clerk_steps.specs.Fulls.{AreFullAt, IsFullAt}
 use Rattle.ec_clerk_steps.proofs.Served.{take-right}
 use Rattle.ec_lawful.proofs.Server.{whole-served}
 use Rattle.ec_lawful.specs.Taking.{AnswersNone}
-use Rattle.ec_quiet.specs.Facts.{IsAnswered}
+use Rattle.ec_quiet.specs.Facts.{WantIsAnswered}
 use Rattle.ec_quiet.specs.Phases.{InPhase, Phase}
 use Rattle.ec_quiet.specs.Scenes.{IsScene, Mail, Scene, delivered, done_by, is_for_server, served, taken_by}
 use Rattle.ec_quiet.specs.Works.{Work}
@@ -105,7 +105,7 @@ module _ (j : Work) (w : World) (sc : Scene) (g : System) (p q : Phase) (c : ℕ
         let r = take-right g.durable.max_objects c m sc.server (ap (λ d. d.max_objects) (sym seen.durable)) in
         subst (λ k. AreFullAt k (g.pool ++ t.sent)) (sym r.0) (each-more (λ x. IsFullAt g.durable.max_objects x.1) g.pool t.sent on.whole.fulls r.1)
 
-    behind : (γ : Ghost) → commits.Stands g t γ → Makes g sc.server t.rec γ → t.spent ≡ None → IsOnLine j (world.served runs t (settled n w)).world (served c m rest sc) (serving_in t γ g)
+    behind : (γ : Ghost) → commits.StepStands g t γ → Makes g sc.server t.rec γ → t.spent ≡ None → IsOnLine j (world.served runs t (settled n w)).world (served c m rest sc) (serving_in t γ g)
     behind γ st mk none =
         let kept : kept_volume g ≡ kept_volume (serving_in t γ g) = ap (λ ks. after g.origin (updates ks)) (sym (serving.kept-same j w sc g p q c m rest on scene ip mail for-server iq γ st mk)) in
         record {
@@ -269,7 +269,7 @@ module _ (j : Work) (w : World) (sc : Scene) (g : System) (p q : Phase) (c : ℕ
                 few = on.few;
                 about = about-now γ e;
                 id = id-now;
-                answered = λ o task a here. subst (λ z. Each (IsAnswered z.cache) z.wanted) (is-it a here) (stays-answered j w sc g on spare scene m rest mail-own for-clerk k here-own p ip o task);
+                answered = λ o task a here. subst (λ z. Each (WantIsAnswered z.cache) z.wanted) (is-it a here) (stays-answered j w sc g on spare scene m rest mail-own for-clerk k here-own p ip o task);
               },
               record { origin = refl; kept = kept-now γ e },
             )

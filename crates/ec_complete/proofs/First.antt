@@ -11,9 +11,9 @@ use Rattle.ec_protocol.specs.declared.world.World.{World}
 use Rattle.ec_quiet.specs.Measure.{sum}
 use Rattle.ec_quiet.specs.Scenes.{IsScene, Scene}
 use Rattle.ec_quiet.specs.Works.{Work}
-use Rattle.ec_quiet.specs.Bounds.{IsFirst}
+use Rattle.ec_quiet.specs.Bounds.{IsFirstPhase}
 use Rattle.ec_quiet.proofs.Beside.{other-at}
-use Rattle.ec_complete.specs.Worlds.{IsKnown, Outset}
+use Rattle.ec_complete.specs.Worlds.{LineIsKnown, Outset}
 use Rattle.ec_complete.specs.Goes.{IsStarted, IsWorkOf}
 use Rattle.ec_complete.specs.Ready.{IsReady, calls_of}
 use Rattle.ec_base.proofs.Numbers.{equal}
@@ -21,7 +21,7 @@ use Rattle.ec_base.proofs.Numbers.{equal}
 -- The step met no fault. The line's work is known, or nothing was done; the clerks have their names, and made few calls.
 pub record IsStepped (outset : Outset) (v : Images) (most : ℕ) (names : List ℕ) (number : ℕ) (l : Line) (w : World) (q : IsReady outset v most names number w) (m : Moving) : Type 0 where
   pub fine : m.fault ≡ None
-  pub known : ((j : Work) × IsWorkOf l w q.scene q.system j × (k : IsKnown outset j number m) × IsFirst k.phase) ⊎ IsScene m.world q.scene
+  pub known : ((j : Work) × IsWorkOf l w q.scene q.system j × (k : LineIsKnown outset j number m) × IsFirstPhase k.phase) ⊎ IsScene m.world q.scene
   pub started : IsStarted outset (length (once names)) number m
   pub calls : sum calls_of m.world.clerks ≤ number
   pub named : (a : ℕ) (b : Clerk) → at a m.world.clerks ≡ Some b → T (member a names)

@@ -37,7 +37,7 @@ use Rattle.ec_deliveries.specs.Leading.{CanTake}
 use Rattle.ec_deliveries.proofs.Led.{deliveries-lead-on}
 use Rattle.ec_deliveries.proofs.Spending.{deliveries-have-next}
 use Rattle.ec_complete.specs.Begins.{most_sent}
-use Rattle.ec_complete.specs.Worlds.{IsCounted, IsKnown, Outset}
+use Rattle.ec_complete.specs.Worlds.{IsCounted, LineIsKnown, Outset}
 use Rattle.ec_deliveries.specs.PhasesBehind.{IsBehind, MaySee}
 use Rattle.ec_agreed_lines.specs.Placed.{IsFollowed, WorksOn, WritesBehind}
 use Rattle.ec_agreed_lines.proofs.Followed.{writes-behind}
@@ -60,15 +60,15 @@ module _ (outset : Outset) (l : Line) (origin v : Images) (j : Work) (calls : �
   below : (w : World) (sc : Scene) → IsScene w sc → IsCounted outset calls w sc → w.sent ≤ most_sent → IsBelow 0 outset.session outset.first calls w sc
   below w sc i counted sent = record { server = counted.server; clerks = counted.clerks; ids = counted.ids; few = few-calls; numbers = omega (arith, sent) }
 
-  spare : (r : Moving) (known : IsKnown outset j calls r) → r.world.sent ≤ most_sent → IsSpare j known.scene
+  spare : (r : Moving) (known : LineIsKnown outset j calls r) → r.world.sent ≤ most_sent → IsSpare j known.scene
   spare r known le = counters-spare 0 outset.session outset.first calls j r.world known.scene known.system known.phase (below r.world known.scene known.stands known.counted le) known.facts known.stands known.comes
 
-  takes : (r : Moving) (known : IsKnown outset j calls r) → r.world.sent ≤ most_sent → (p : Phase) (t : ℕ × Msg) (rest : Mail) → InPhase j known.scene p → known.scene.mail ≡ t ∷ rest → HasNext t.1 known.scene.server → CanTake j known.scene p t
+  takes : (r : Moving) (known : LineIsKnown outset j calls r) → r.world.sent ≤ most_sent → (p : Phase) (t : ℕ × Msg) (rest : Mail) → InPhase j known.scene p → known.scene.mail ≡ t ∷ rest → HasNext t.1 known.scene.server → CanTake j known.scene p t
   takes r known le p t rest q head next = can-take-next j r.world known.scene known.system p t rest known.facts (spare r known le) known.stands q head next
 
   -- one delivery
   module _ (r : Moving) (q : IsKnownOf outset l origin v j calls r) (n : ℕ) (le : r.world.sent ≤ most_sent) (is-due : due r.world ≡ Some n) (fine : (deliver runs n r.world).fault ≡ None) where
-    abbrev known : IsKnown outset j calls r
+    abbrev known : LineIsKnown outset j calls r
     known = q.known
 
     abbrev sc : Scene

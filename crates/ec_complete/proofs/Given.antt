@@ -64,7 +64,7 @@ module _ (first : ℕ) (j : Work) (w : World) (sc : Scene) (g : System) (p q : P
   abbrev now : Durable
   now = (serving.t j w sc g p q c m rest on scene ip mail for-server iq).server.durable
 
-  module _ (γ : Ghost) (st : commits.Stands g (serving.t j w sc g p q c m rest on scene ip mail for-server iq) γ) (mk : Makes g sc.server (serving.t j w sc g p q c m rest on scene ip mail for-server iq).rec γ) where
+  module _ (γ : Ghost) (st : commits.StepStands g (serving.t j w sc g p q c m rest on scene ip mail for-server iq) γ) (mk : Makes g sc.server (serving.t j w sc g p q c m rest on scene ip mail for-server iq).rec γ) where
     abbrev h : System
     h = serving_in (serving.t j w sc g p q c m rest on scene ip mail for-server iq) γ g
 

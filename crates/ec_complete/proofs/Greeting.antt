@@ -21,7 +21,7 @@ use Rattle.ec_lawful.specs.Steps.{IsNewIn}
 use Rattle.ec_quiet.specs.Phases.{Phase, Greets, Opens, Claims, Wants, Recalls, Flushes, Keeps, Grants, Asks, Gives, Refuses, Saves, Saved, Ends, InPhase, IsWorking}
 use Rattle.ec_quiet.specs.Scenes.{IsScene, Scene, done_by}
 use Rattle.ec_quiet.specs.Works.{Work}
-use Rattle.ec_quiet.specs.Bounds.{IsFirst}
+use Rattle.ec_quiet.specs.Bounds.{IsFirstPhase}
 use Rattle.ec_quiet.proofs.Beside.{other-at}
 use Rattle.ec_quiet.specs.First.{start_calling}
 use Rattle.ec_quiet.proofs.Stepping.{carried}
@@ -29,7 +29,7 @@ use Rattle.ec_complete.specs.WaitingCalls.{kept_volume, touched_by}
 use Rattle.ec_complete.specs.Lines.{IsOnLine, next_object}
 use Rattle.ec_complete.specs.LineCalls.{IsCalledFirst, LeavesVolume}
 use Rattle.ec_complete.proofs.Starts.{starts-leave-kept}
-use Rattle.ec_complete.specs.Worlds.{IsCounted, IsKnown, Outset}
+use Rattle.ec_complete.specs.Worlds.{IsCounted, LineIsKnown, Outset}
 use Rattle.ec_deliveries.proofs.Begun.{starts-begin}
 use Rattle.ec_complete.specs.Following.{BeginsBehind, IsWorked}
 use Rattle.ec_complete.proofs.Following.{same-scene}
@@ -87,7 +87,7 @@ module _ (w : World) (c number : ℕ) (cl : Call) (none : at c w.clerks ≡ None
     pub starts-in : IsScene (call c number cl w).world (done_by c (start_calling c b cl) sc.mail sc)
     starts-in = subst (λ (m : Moving). IsScene m.world (done_by c (start_calling c b cl) sc.mail sc)) (sym calls-are) (carried u sc booted c number cl d.outs d.clerk unspent-call).1
 
-module _ (outset : Outset) (j : Work) (number : ℕ) (cl : Call) (w : World) (sc : Scene) (g : System) (calls : ℕ) (is : IsCalledFirst j cl w sc g) (new : IsNewIn w number) (fine : (call j.clerk number cl w).fault ≡ None) (known : IsKnown outset j calls (call j.clerk number cl w)) (first : IsFirst known.phase) where
+module _ (outset : Outset) (j : Work) (number : ℕ) (cl : Call) (w : World) (sc : Scene) (g : System) (calls : ℕ) (is : IsCalledFirst j cl w sc g) (new : IsNewIn w number) (fine : (call j.clerk number cl w).fault ≡ None) (known : LineIsKnown outset j calls (call j.clerk number cl w)) (first : IsFirstPhase known.phase) where
   none-there : at j.clerk w.clerks ≡ None
   none-there = ap (at j.clerk) is.scene.clerks ∙ is.none
 
@@ -116,7 +116,7 @@ module _ (outset : Outset) (j : Work) (number : ℕ) (cl : Call) (w : World) (sc
   not-working : {A : Type 0} (xs : List ℕ) (sl : Slot) (k : Clerk) → IsWorking xs j now sl k → A
   not-working xs sl k i = absurd (not-open sl i.inside.there i.inside.is_open)
 
-  as-greets : (p : Phase) → IsFirst p → InPhase j now p → (age : Age) × InPhase j now (Greets age)
+  as-greets : (p : Phase) → IsFirstPhase p → InPhase j now p → (age : Age) × InPhase j now (Greets age)
   as-greets (Greets age) f i = (age, i)
   as-greets (Wants x h n) f i = let p = i.facts.1 in not-working [] p.slot p.clerk p.working
   as-greets (Asks again got ask) f i = let p = i.facts.1 in not-working [] p.slot p.clerk p.working

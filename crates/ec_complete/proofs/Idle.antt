@@ -53,7 +53,7 @@ module _ (outset : Outset) (v : Images) (most : ℕ) (names : List ℕ) (number 
   pub is-new : IsNewIn w number
   is-new = record { unshown = unshown number w.shown q.shown; unused = λ c n k cl e. absurd (none_some (sym (its-quiet.1 c n) ∙ e)) }
 
-  pub holds : steps.Holds (OfRun v most) w
+  pub holds : steps.HoldsIn (OfRun v most) w
   holds = (q.system, q.facts, q.in_system)
 
   pub none-pending : pending w ≡ 0

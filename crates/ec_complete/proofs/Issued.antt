@@ -20,7 +20,7 @@ use Rattle.ec_protocol.specs.declared.world.World.{World}
 use Rattle.ec_coherence.specs.Events.{EventsAgree, shown_boot}
 use Rattle.ec_lawful.specs.Headline.{AreLawful, IsGreatest, placed_on}
 use Rattle.ec_lawful.proofs.PlacesServe.{fronts-there}
-use Rattle.ec_lawful.specs.Steps.{Holds}
+use Rattle.ec_lawful.specs.Steps.{HoldsIn}
 use Rattle.ec_lawful.specs.Runs.{OfRun}
 use Rattle.ec_quiet.specs.Settling.{IsSettled}
 use Rattle.ec_machine_laws.specs.Answers.{answers_in, answers_to, asked_from, none_yet}
@@ -54,12 +54,12 @@ module _ (most : ℕ) where
       go x true e l = omega (arith, eqb-true x 1 e)
       go x false e l = absurd (subst (λ b. T (not (is_gone (cond b (new_object Dir) Gone)))) e l)
 
-  module _ (w : World) (holds : Holds (OfRun v most) w) where
+  module _ (w : World) (holds : HoldsIn (OfRun v most) w) where
     -- its lines are lawful
     pub lawful : AreLawful (placed_on v 1) most w.shown
     lawful = go holds
       where
-        go : Holds (OfRun v most) w → AreLawful (placed_on v 1) most w.shown
+        go : HoldsIn (OfRun v most) w → AreLawful (placed_on v 1) most w.shown
         go (g, f, st) = subst (λ (o : Images). AreLawful (placed_on o 1) most w.shown) f.origin (subst (λ m. AreLawful (placed_on g.origin 1) m w.shown) f.most_is
             (subst (AreLawful (placed_on g.origin 1) g.durable.max_objects) (sym st.shown)
             (fronts-there g 1 f.whole.shows.fresh ((f.whole.all).0).images.origin (subst (λ (o : Images). (x : ℕ) → T (not (is_gone (o x))) → x ≤ 1) (sym f.origin) root-alone.least) g.durable.max_objects f.whole.shows.tells.fronts g.ghost.shown [] (no-more g.ghost.shown))))
@@ -72,7 +72,7 @@ module _ (most : ℕ) where
       next-is : (c : ℕ) (k : Clerk) → at c w.clerks ≡ Some k → operations_in c (answers_in w.shown) + 1 ≡ k.log.next
       next-is c k there = go holds
         where
-          go : Holds (OfRun v most) w → operations_in c (answers_in w.shown) + 1 ≡ k.log.next
+          go : HoldsIn (OfRun v most) w → operations_in c (answers_in w.shown) + 1 ≡ k.log.next
           go (g, f, st) = by (g.running c) refl (sym (st.clerks c) ∙ there)
             where
               ev : EventsAgree g

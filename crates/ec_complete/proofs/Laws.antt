@@ -25,14 +25,14 @@ use Rattle.ec_protocol.specs.declared.world.Event.{Event}
 use Rattle.ec_protocol.specs.declared.world.Event.TheVariants as event
 use Rattle.ec_protocol.specs.declared.world.World.{World}
 use Rattle.ec_lawful.specs.Calls.{AreOf}
-use Rattle.ec_lawful.specs.Steps.{Holds, MayHappen}
+use Rattle.ec_lawful.specs.Steps.{HoldsIn, MayHappen}
 use Rattle.ec_lawful.specs.Runs.{OfRun}
 use Rattle.ec_quiet.specs.Facts.{IsOrderly}
 use Rattle.ec_quiet.specs.Measure.{measure, sum, unsent_by}
 use Rattle.ec_quiet.specs.Phases.{Phase, backs}
 use Rattle.ec_quiet.specs.Scenes.{Scene}
 use Rattle.ec_quiet.specs.Works.{Work}
-use Rattle.ec_quiet.specs.Bounds.{IsFirst, other_rows}
+use Rattle.ec_quiet.specs.Bounds.{IsFirstPhase, other_rows}
 use Rattle.ec_quiet.specs.SettlingScenes.{DeliveriesKeepScenes, EndsAreIdle, NothingIsDue}
 use Rattle.ec_machine_laws.specs.Counts as server
 use Rattle.ec_agreed_lines.specs.Counting as clerks
@@ -82,10 +82,10 @@ use Rattle.ec_complete.proofs.Settling.{all-go-on, all-settle, all-stay}
 
 -- All facts hold behind each event and each delivery.
 
-pub events-hold : (v : Images) (most : ℕ) (e : Event) (w : World) → Holds (OfRun v most) w → MayHappen w e → (happen runs e w).fault ≡ None → Holds (OfRun v most) (happen runs e w).world
+pub events-hold : (v : Images) (most : ℕ) (e : Event) (w : World) → HoldsIn (OfRun v most) w → MayHappen w e → (happen runs e w).fault ≡ None → HoldsIn (OfRun v most) (happen runs e w).world
 events-hold v most e w h may f = events.event-holds (OfRun v most) (keep clerks-keep-all v most) runs e w h may f
 
-pub deliveries-hold : (v : Images) (most : ℕ) (n : ℕ) (w : World) → Holds (OfRun v most) w → (deliver runs n w).fault ≡ None → Holds (OfRun v most) (deliver runs n w).world
+pub deliveries-hold : (v : Images) (most : ℕ) (n : ℕ) (w : World) → HoldsIn (OfRun v most) w → (deliver runs n w).fault ≡ None → HoldsIn (OfRun v most) (deliver runs n w).world
 deliveries-hold v most n w h f = events.deliver-holds (OfRun v most) (keep clerks-keep-all v most) runs n w h f
 
 -- of which calls the lines are
@@ -100,7 +100,7 @@ deliveries-tell P n w a f = (tells.deliver-tells P runs n w a f).of
 
 -- A world that is opened.
 
-pub openings-hold : (d : Durable) → WellFormed d → length d.sessions ≡ 16 → images d.volume 0 ≡ Gone → (w : World) → open_world d ≡ Ok w → Holds (OfRun (images d.volume) d.max_objects) w
+pub openings-hold : (d : Durable) → WellFormed d → length d.sessions ≡ 16 → images d.volume 0 ≡ Gone → (w : World) → open_world d ≡ Ok w → HoldsIn (OfRun (images d.volume) d.max_objects) w
 openings-hold d formed sixteen gone w e = reached.opened-holds d formed sixteen gone w e
 
 pub openings-tell : (d : Durable) → WellFormed d → length d.sessions ≡ 16 → images d.volume 0 ≡ Gone → (w : World) → open_world d ≡ Ok w → w.shown ≡ []
@@ -177,7 +177,7 @@ needs-touched = needed-touched
 
 -- Settling.
 
-pub measure-most : (j : Work) (sc : Scene) (p : Phase) (k : ℕ) → IsFirst p → backs j sc.mail ≡ [] → length j.touched ≤ 137 → other_rows j.session sc.server.tokens < k → sum (unsent_by j) sc.clerks ≤ 65535 → measure j sc p ≤ 32 * (4096 * (k + 1))
+pub measure-most : (j : Work) (sc : Scene) (p : Phase) (k : ℕ) → IsFirstPhase p → backs j sc.mail ≡ [] → length j.touched ≤ 137 → other_rows j.session sc.server.tokens < k → sum (unsent_by j) sc.clerks ≤ 65535 → measure j sc p ≤ 32 * (4096 * (k + 1))
 measure-most j sc p k f b t r u = bounded.measure-most j sc p k f b t r u
 
 pub rows-few : (v : Server) (clerks : Table Clerk) (c s : ℕ) → IsOrderly v clerks → T (is_some (at c clerks)) → ((sl : Slot) → slot v.durable c ≡ Some sl → sl.is_open ≡ true → sl.session ≡ s) → other_rows s v.tokens < length clerks

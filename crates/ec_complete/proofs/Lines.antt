@@ -21,7 +21,7 @@ use Rattle.ec_coherence.specs.System.{System}
 use Rattle.ec_lawful.specs.Calls.{AreOf, IsOf}
 use Rattle.ec_lawful.specs.DrillRuns.{IsFit}
 use Rattle.ec_protocol.specs.Drill.{reads}
-use Rattle.ec_lawful.specs.Steps.{Holds, IsNewIn, StepsKeep}
+use Rattle.ec_lawful.specs.Steps.{HoldsIn, IsNewIn, StepsKeep}
 use Rattle.ec_lawful.proofs.CallsShown.{deliver-tells, event-tells}
 use Rattle.ec_lawful.proofs.Events.{deliver-holds, event-holds}
 use Rattle.ec_lawful.proofs.Worlds.{F, kept-by}
@@ -31,7 +31,7 @@ use Rattle.ec_quiet.specs.Scenes.{IsScene, Scene}
 use Rattle.ec_complete.proofs.Quieting.{quiets}
 use Rattle.ec_machine_laws.specs.Answers.{asking_in}
 use Rattle.ec_machine_laws.specs.PlainLines.{asked_in}
-use Rattle.ec_agreed_lines.specs.Answered.{IsAnswered, IsCalled, NoneCalls}
+use Rattle.ec_agreed_lines.specs.Answered.{LineIsAnswered, IsCalled, NoneCalls}
 use Rattle.ec_agreed_lines.proofs.Reaching.{calls-once, others-none}
 use Rattle.ec_deliveries.specs.Runs.{HasSettled}
 use Rattle.ec_complete.specs.Complete.{IsFaultless}
@@ -47,16 +47,16 @@ module _ (d : Durable) (formed : WellFormed d) (sixteen : length d.sessions ≡ 
   keeps = kept-by d formed sixteen gone
 
   -- no call is under way where all is idle
-  none-calls : (w : World) (sc : Scene) → Holds G w → IsScene w sc → IsIdle sc → NoneCalls w
+  none-calls : (w : World) (sc : Scene) → HoldsIn G w → IsScene w sc → IsIdle sc → NoneCalls w
   none-calls w sc holds i idle = (quiets w holds.0 sc ((holds.1.whole).all.0).sessions (holds.1.whole).calls holds.2 i idle).1
 
   -- the facts, and the lines, of a world that a line comes to
   pub record Along (n : ℕ) (w : World) (m : Moving) : Type 0 where
-    pub holds : Holds G m.world
+    pub holds : HoldsIn G m.world
     pub of : AreOf (Below (n + 1)) m.world
     pub lines : m.world.shown ≡ w.shown ++ m.shown
 
-  along-on : (n : ℕ) (w : World) (r e : Moving) → e.fault ≡ None → Along n w r → Holds G e.world → AreOf (Below (n + 1)) e.world → e.world.shown ≡ r.world.shown ++ e.shown → Along n w (onward r e)
+  along-on : (n : ℕ) (w : World) (r e : Moving) → e.fault ≡ None → Along n w r → HoldsIn G e.world → AreOf (Below (n + 1)) e.world → e.world.shown ≡ r.world.shown ++ e.shown → Along n w (onward r e)
   along-on n w r e f a holds of lines = subst (Along n w) (sym (ap (λ o. elim o as (λ z. Moving) [ Some g ↦ record r { fault = Some g } | None ↦ record { world = e.world; shown = r.shown ++ e.shown; fault = None } ]) f))
       (record { holds = holds; of = of; lines = lines ∙ ap (λ ss. ss ++ e.shown) a.lines ∙ regroup w.shown r.shown e.shown })
 
@@ -69,7 +69,7 @@ module _ (d : Durable) (formed : WellFormed d) (sixteen : length d.sessions ≡ 
 
   -- Before the line of this number all is idle.
   pub record Before (n : ℕ) (w : World) : Type 0 where
-    pub holds : Holds G w
+    pub holds : HoldsIn G w
     pub shown : EachLine (IsOf (Below n)) w.shown
     pub scene : Scene
     pub stands : IsScene w scene
@@ -134,7 +134,7 @@ module _ (d : Durable) (formed : WellFormed d) (sixteen : length d.sessions ≡ 
         pub answered : asked_in r.shown ≡ asking_in n l
         answered = go l fine faultless settled.reached
           where
-            once : (c : ℕ) (cl : Call) → IsCalled n c cl r ⊎ IsAnswered n c cl r → asked_in r.shown ≡ (n, c, cl) ∷ []
+            once : (c : ℕ) (cl : Call) → IsCalled n c cl r ⊎ LineIsAnswered n c cl r → asked_in r.shown ≡ (n, c, cl) ∷ []
             once c cl (inr a) = a.1
             once c cl (inl a) = absurd (open-still c cl a)
               where

@@ -16,7 +16,7 @@ use Rattle.ec_protocol.specs.declared.server.Server.{Server}
 use Rattle.ec_protocol.specs.declared.world.Sent.{Sent}
 use Rattle.ec_protocol.specs.declared.world.World.{World}
 use Rattle.ec_coherence.proofs.Tables.{same_some}
-use Rattle.ec_lawful.specs.Steps.{Holds}
+use Rattle.ec_lawful.specs.Steps.{HoldsIn}
 use Rattle.ec_lawful.proofs.Events.{deliver-holds}
 use Rattle.ec_lawful.specs.Runs.{OfRun}
 use Rattle.ec_lawful.proofs.Runs.{keep}
@@ -36,7 +36,7 @@ use Rattle.ec_complete.specs.Spare.{max_calls}
 use Rattle.ec_complete.proofs.Below.{counters-spare}
 use Rattle.ec_complete.proofs.Given.{ids-stay-given}
 use Rattle.ec_complete.specs.Begins.{most_sent}
-use Rattle.ec_complete.specs.Worlds.{IsKnown, LinesStayKnown, new_outset}
+use Rattle.ec_complete.specs.Worlds.{LineIsKnown, LinesStayKnown, new_outset}
 use Rattle.ec_complete.proofs.Settling.{all-stay}
 use Rattle.ec_complete.specs.Rooms.{ComesWell, GrantsRoom, HasRoomIn, IsWellAsked}
 use Rattle.ec_complete.specs.ScriptRooms.{HasStock, IsRoomFor, KeepsRoom, LinesKeepRoom}
@@ -91,10 +91,10 @@ comes-well (msg.OldBoot asked greatest) k g f = g
 
 module _ (v : Images) (most : ℕ) (names callers : List ℕ) (makes : ℕ → ℕ) (j : Work) (calls : ℕ) (few : calls ≤ max_calls) (room : IsRoomFor names makes most) where
   abbrev G : World → Type 0
-  G w = Holds (OfRun v most) w
+  G w = HoldsIn (OfRun v most) w
 
   -- one delivery
-  module _ (r : Moving) (known : IsKnown new_outset j calls r) (holds : G r.world) (kept : KeepsRoom names callers makes r) (n : ℕ) (is-due : due r.world ≡ Some n) (fine : (deliver runs n r.world).fault ≡ None) where
+  module _ (r : Moving) (known : LineIsKnown new_outset j calls r) (holds : G r.world) (kept : KeepsRoom names callers makes r) (n : ℕ) (is-due : due r.world ≡ Some n) (fine : (deliver runs n r.world).fault ≡ None) where
     abbrev sc : Scene
     sc = known.scene
 
@@ -164,7 +164,7 @@ module _ (v : Images) (most : ℕ) (names callers : List ℕ) (makes : ℕ → �
   at-most : (r : Moving) (n : ℕ) → (deliver runs n r.world).fault ≡ None → (onward r (deliver runs n r.world)).world.sent ≤ most_sent → r.world.sent ≤ most_sent
   at-most r n f l = let same = ap (λ (x : Moving). x.world.sent) (onward-is r n f) in omega (arith, more-sent r.world n, l, same)
 
-  pub keeps : (m r : Moving) → IsKnown new_outset j calls m → G m.world → KeepsRoom names callers makes m → Reaches m r → r.world.sent ≤ most_sent → G r.world × KeepsRoom names callers makes r
+  pub keeps : (m r : Moving) → LineIsKnown new_outset j calls m → G m.world → KeepsRoom names callers makes m → Reaches m r → r.world.sent ≤ most_sent → G r.world × KeepsRoom names callers makes r
   keeps m r known holds kept here le = (holds, kept)
   keeps m _ known holds kept (on r n reached is-due fine) le =
       let less : r.world.sent ≤ most_sent = at-most r n fine le in

@@ -69,7 +69,7 @@ module _ (j : Work) (l : ℕ) (cl : Call) (w : World) (sc : Scene) (g : System) 
   abbrev F : System → Type 0
   F = OfRun g.origin g.durable.max_objects
 
-  holds : IsNewIn w l → (call j.clerk l cl w).fault ≡ None → steps.Holds F u
+  holds : IsNewIn w l → (call j.clerk l cl w).fault ≡ None → steps.HoldsIn F u
   holds new f =
       event-holds F (keep clerks-keep-all g.origin g.durable.max_objects) runs (event.Call j.clerk l cl) w (g, record { whole = is.whole; origin = refl; most_is = refl }, is.stands) (new, is.its.clerk, is.bounded) f
 
@@ -136,7 +136,7 @@ module _ (j : Work) (l : ℕ) (cl : Call) (w : World) (sc : Scene) (g : System) 
   pub come-on : (q : Phase) → IsNewIn w l → (call j.clerk l cl w).fault ≡ None → IsScene u now → InPhase j now q → IsTold q → (h : System) × IsOnLine j u now h × LeavesVolume j now g h × Touches h
   come-on q new f then iq told = go (holds new f)
     where
-      go : steps.Holds F u → (h : System) × IsOnLine j u now h × LeavesVolume j now g h × Touches h
+      go : steps.HoldsIn F u → (h : System) × IsOnLine j u now h × LeavesVolume j now g h × Touches h
       go (h, fh, sh) = (h, on-line q h fh sh then iq told, leaves q h fh sh then iq told, touches q h fh sh then iq told)
 
 pub calls-leave-kept : (j : Work) (l : ℕ) (cl : Call) (w : World) (sc : Scene) (g : System) (sl : Slot) (k : Clerk) (q : Phase) → IsCalled j cl w sc g sl k → IsNewIn w l → (call j.clerk l cl w).fault ≡ None

@@ -94,7 +94,7 @@ idle-ready outset d formed sixteen gone names w sc opened i idle order counted b
   boots = λ c. omega (arith, boots c);
 }
   where
-    holds : steps.Holds (OfRun (images d.volume) d.max_objects) w
+    holds : steps.HoldsIn (OfRun (images d.volume) d.max_objects) w
     holds = openings-hold d formed sixteen gone w opened
 
     new : IsNew w

@@ -21,10 +21,10 @@ use Rattle.ec_coherence.proofs.Tables.{differ, same_some}
 use Rattle.ec_clerk_steps.specs.Moves.{IsStill}
 use Rattle.ec_clerk_steps.proofs.Stilling.{are-still}
 use Rattle.ec_lawful.specs.Taking.{AnswersNone}
-use Rattle.ec_quiet.specs.Facts.{IsAnswered}
+use Rattle.ec_quiet.specs.Facts.{WantIsAnswered}
 use Rattle.ec_quiet.specs.Phases.{Phase, Greets, Opens, Claims, Wants, Recalls, Flushes, Keeps, Grants, Asks, Gives, Refuses, Saves, Saved, Ends, InPhase, IsStarting, main, messages, recall_of}
 use Rattle.ec_recall.specs.Due.{recall_to}
-use Rattle.ec_quiet.specs.Facts.{clerk_of}
+use Rattle.ec_quiet.specs.Facts.{session_clerk}
 use Rattle.ec_quiet.specs.Scenes.{IsScene, Mail, Scene, is_for_server}
 use Rattle.ec_quiet.specs.Works.{Calls, HasTask, Pushes, Task, Work, is_saving}
 use Rattle.ec_deliveries.proofs.Working.{main-front}
@@ -307,7 +307,7 @@ module _ (j : Work) (w : World) (sc : Scene) (g : System) (on : IsOnLine j w sc 
       by (Recalls x h [] []) ip e = absurd (none-first (j.clerk, m) (main j rest) e)
       by (Recalls x h [] (b ∷ bs)) ip e = not-server _ _ refl e
       by (Flushes x h r b ops more) ip e = not-server _ _ refl e
-      by (Keeps x h r b more) ip e = by-still v q waits (subst (λ z. IsStill k (taken z (doing k)).clerk) (is-msg (clerk_of sc.server r.0, msg.Kept r.0 sc.server.durable.epoch b) [] e) (are-still.kept (msg.Kept r.0 sc.server.durable.epoch b) tt (doing k)))
+      by (Keeps x h r b more) ip e = by-still v q waits (subst (λ z. IsStill k (taken z (doing k)).clerk) (is-msg (session_clerk sc.server r.0, msg.Kept r.0 sc.server.durable.epoch b) [] e) (are-still.kept (msg.Kept r.0 sc.server.durable.epoch b) tt (doing k)))
       by (Grants x h n) ip e = by-still v q waits (subst (λ z. IsStill k (taken z (doing k)).clerk) (is-msg (j.clerk, msg.Grant j.session sc.server.durable.epoch x n h (images sc.server.durable.volume x)) [] e) (are-still.grants (msg.Grant j.session sc.server.durable.epoch x n h (images sc.server.durable.volume x)) tt (doing k)))
       by (Asks again got ask) ip e = not-server _ _ refl e
       by (Gives got n first) ip e = by-ids got n first ip v q waits (is-msg _ _ e) sent
@@ -322,17 +322,17 @@ module _ (j : Work) (w : World) (sc : Scene) (g : System) (on : IsOnLine j w sc 
 
   -- Where an operation is pushed each want stays answered.
 
-  still-answered : (now : Clerk) → now.wanted ≡ k.wanted → now.cache.lasts ≡ k.cache.lasts → Each (IsAnswered k.cache) k.wanted → Each (IsAnswered now.cache) now.wanted
-  still-answered now a b e = subst (Each (IsAnswered now.cache)) (sym a) (each k.wanted e)
+  still-answered : (now : Clerk) → now.wanted ≡ k.wanted → now.cache.lasts ≡ k.cache.lasts → Each (WantIsAnswered k.cache) k.wanted → Each (WantIsAnswered now.cache) now.wanted
+  still-answered now a b e = subst (Each (WantIsAnswered now.cache)) (sym a) (each k.wanted e)
     where
-      each : (ws : List Wanted) → Each (IsAnswered k.cache) ws → Each (IsAnswered now.cache) ws
+      each : (ws : List Wanted) → Each (WantIsAnswered k.cache) ws → Each (WantIsAnswered now.cache) ws
       each [] e = tt
       each (v ∷ ws) e = (subst (λ z. v.last < at_or 0 v.obj z) (sym b) e.0, each ws e.1)
 
   idle-answered : (z : Msg) → z ≡ m → (taken z (doing k)).clerk.recalls ≡ [] → k.waiting ≡ [] → (taken z (doing k)).clerk.waiting ≡ k.waiting → (taken z (doing k)).clerk.wanted ≡ k.wanted → (taken z (doing k)).clerk.cache.lasts ≡ k.cache.lasts
-      → Each (IsAnswered k.cache) k.wanted → Each (IsAnswered (take m k).clerk.cache) (take m k).clerk.wanted
+      → Each (WantIsAnswered k.cache) k.wanted → Each (WantIsAnswered (take m k).clerk.cache) (take m k).clerk.wanted
   idle-answered z is r none w a b e =
-      subst (λ y. Each (IsAnswered (take y k).clerk.cache) (take y k).clerk.wanted) is
+      subst (λ y. Each (WantIsAnswered (take y k).clerk.cache) (take y k).clerk.wanted) is
       (let s = idle-same (taken z (doing k)) r (w ∙ none) in still-answered (take z k).clerk (s.0 ∙ a) (s.1 ∙ b) e)
 
   opened-same : (age : _) (s e : ℕ) → let d = taken (msg.Opened age s e) (doing k) in (d.clerk.recalls ≡ k.recalls) × (d.clerk.waiting ≡ k.waiting) × (d.clerk.wanted ≡ k.wanted) × (d.clerk.cache.lasts ≡ k.cache.lasts)
@@ -362,13 +362,13 @@ module _ (j : Work) (w : World) (sc : Scene) (g : System) (on : IsOnLine j w sc 
       apart : Calls cl ≡ Pushes n → ⊥
       apart q = cc
 
-  pub stays-answered : (p : Phase) → InPhase j sc p → (n : ℕ) → j.task ≡ Pushes n → Each (IsAnswered (take m k).clerk.cache) (take m k).clerk.wanted
+  pub stays-answered : (p : Phase) → InPhase j sc p → (n : ℕ) → j.task ≡ Pushes n → Each (WantIsAnswered (take m k).clerk.cache) (take m k).clerk.wanted
   stays-answered p ip n task = by p ip (head p ip)
     where
-      abbrev-answered : Each (IsAnswered k.cache) k.wanted
+      abbrev-answered : Each (WantIsAnswered k.cache) k.wanted
       abbrev-answered = on.answered n task k there
 
-      by : (p : Phase) → InPhase j sc p → Head p → Each (IsAnswered (take m k).clerk.cache) (take m k).clerk.wanted
+      by : (p : Phase) → InPhase j sc p → Head p → Each (WantIsAnswered (take m k).clerk.cache) (take m k).clerk.wanted
       by (Greets age) ip e = not-server _ _ refl e
       by (Opens age) ip e =
           let st = ip.facts.1 in

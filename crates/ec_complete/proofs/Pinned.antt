@@ -23,7 +23,7 @@ use Rattle.ec_protocol.specs.Clerk.{on_objects}
 use Rattle.ec_protocol.specs.declared.clerk.Clerk.{Clerk}
 use Rattle.ec_coherence.specs.System.{System, clerk_in, is_of, undurable}
 use Rattle.ec_coherence.specs.Images.{ImagesAgree}
-use Rattle.ec_coherence.specs.Log.{HasWrites, IdsAgree, LogAgrees, LogsAgree, makes, mine, numbered}
+use Rattle.ec_coherence.specs.Log.{HasWrites, IdsAgree, LogAgrees, LogsAgree, made_by as makes, mine, numbered}
 use Rattle.ec_coherence.specs.Sessions.{SessionsAgree}
 use Rattle.ec_coherence.proofs.Carried.{gone-is}
 use Rattle.ec_coherence.proofs.Ids.{in-back, in-either, in-front}

@@ -24,7 +24,7 @@ use Rattle.ec_protocol.specs.declared.world.World.{World}
 use Rattle.ec_lawful.specs.Headline.{joined}
 use Rattle.ec_lawful.specs.Drills.{lines_in}
 use Rattle.ec_lawful.specs.DrillRuns.{AreFit, IsFit}
-use Rattle.ec_lawful.specs.Steps.{Holds, IsNewIn}
+use Rattle.ec_lawful.specs.Steps.{HoldsIn, IsNewIn}
 use Rattle.ec_lawful.proofs.Events.{event-holds}
 use Rattle.ec_lawful.specs.Runs.{OfRun}
 use Rattle.ec_lawful.proofs.Runs.{keep}
@@ -32,7 +32,7 @@ use Rattle.ec_lawful.proofs.Clerks.{clerks-keep-all}
 use Rattle.ec_lawful.proofs.Worlds.{no-lines}
 use Rattle.ec_quiet.specs.Scenes.{IsScene}
 use Rattle.ec_quiet.specs.Works.{Work}
-use Rattle.ec_quiet.specs.Bounds.{IsFirst}
+use Rattle.ec_quiet.specs.Bounds.{IsFirstPhase as IsFirst}
 use Rattle.ec_quiet.proofs.Delivering as delivering
 use Rattle.ec_quiet.specs.Settling.{IsSettled}
 use Rattle.ec_quiet.proofs.Showing as settling
@@ -46,8 +46,8 @@ use Rattle.ec_complete.specs.SettledRuns.{EachSettles, HasRoom}
 use Rattle.ec_complete.proofs.Lines as lines
 use Rattle.ec_complete.proofs.Plainness.{NoEnd}
 use Rattle.ec_complete.proofs.Runs.{completes}
-use Rattle.ec_complete.specs.Worlds.{IsKnown, new_outset}
-use Rattle.ec_complete.specs.Goes.{GoesOn, GoesThrough, IsWorkOf, PushGoes}
+use Rattle.ec_complete.specs.Worlds.{LineIsKnown as IsKnown, new_outset}
+use Rattle.ec_complete.specs.Goes.{LineGoesOn, GoesThrough, IsWorkOf, PushGoes}
 use Rattle.ec_complete.specs.Ready.{IsReady}
 use Rattle.ec_complete.proofs.Going.{lines-go-through, pushes-go}
 use Rattle.ec_complete.proofs.Opening.{new-early, new-ready}
@@ -103,7 +103,7 @@ module _ (most : ℕ) (formed : WellFormed (formatted most)) (w : World) (opened
   k = bound ls
 
   abbrev G : World → Type 0
-  G u = Holds (OfRun (v most) most) u
+  G u = HoldsIn (OfRun (v most) most) u
 
   few-names : length (once names) ≤ 16
   few-names = names-few (v most) ls script.faultless fit script.pushes
@@ -215,7 +215,7 @@ module _ (most : ℕ) (formed : WellFormed (formatted most)) (w : World) (opened
     through = lines-go-through new_outset (v most) most names number l column u q.ready new-early few-names (omega (arith, q.count)) (omega (arith, q.left)) q.no-faults.0 q.fits.0 (all-members (clerk_in l) names (λ c t. q.named c (in-front c (clerk_in l) (named_in rest) t)))
         (goes l q.pushes.0)
 
-    abbrev go-on : GoesOn new_outset (v most) most names number l u q.ready
+    abbrev go-on : LineGoesOn new_outset (v most) most names number l u q.ready
     go-on = through.goes
 
     hs : HasSettled k m r

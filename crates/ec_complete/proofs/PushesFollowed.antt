@@ -15,7 +15,7 @@ use Rattle.ec_protocol.specs.declared.world.World.{World}
 use Rattle.ec_protocol.specs.declared.world.WorldFault.TheVariants as fault
 use Rattle.ec_coherence.specs.Steps.{Stands}
 use Rattle.ec_coherence.specs.System.{System}
-use Rattle.ec_lawful.specs.Steps.{Holds}
+use Rattle.ec_lawful.specs.Steps.{HoldsIn}
 use Rattle.ec_lawful.proofs.Events.{event-holds}
 use Rattle.ec_lawful.specs.Runs.{OfRun}
 use Rattle.ec_lawful.specs.Whole.{Whole}
@@ -84,7 +84,7 @@ module _ (outset : Outset) (j : Work) (n : ℕ) (w : World) (sc : Scene) (g : Sy
   abbrev F : System → Type 0
   F = OfRun g.origin g.durable.max_objects
 
-  holds : Holds F m.world
+  holds : HoldsIn F m.world
   holds = event-holds F (keep clerks-keep-all g.origin g.durable.max_objects) runs (event.Push j.clerk n) w (g, record { whole = whole; origin = refl; most_is = refl }, in-system) tt fine
 
   abbrev now : Scene
@@ -121,6 +121,6 @@ module _ (outset : Outset) (j : Work) (n : ℕ) (w : World) (sc : Scene) (g : Sy
   pub push-begins : BeginsBehind outset (line.Push j.clerk n) g.origin v j calls m ⊎ IsScene m.world sc
   push-begins = go (pushed w sc scene j.clerk n k (begins j sc sl k n idle is).1 (issued-here j.clerk n k w (ap (λ (x : Moving). x.fault) same ∙ fine))) holds
     where
-      go : IsScene (push j.clerk n (Some k) w).world now ⊎ IsScene (push j.clerk n (Some k) w).world sc → Holds F m.world → BeginsBehind outset (line.Push j.clerk n) g.origin v j calls m ⊎ IsScene m.world sc
+      go : IsScene (push j.clerk n (Some k) w).world now ⊎ IsScene (push j.clerk n (Some k) w).world sc → HoldsIn F m.world → BeginsBehind outset (line.Push j.clerk n) g.origin v j calls m ⊎ IsScene m.world sc
       go (inl i) (h, fh, sh) = inl (asked (subst (λ (x : Moving). IsScene x.world now) same i) h fh sh)
       go (inr i) h = inr (subst (λ (x : Moving). IsScene x.world sc) same i)

@@ -24,7 +24,7 @@ use Rattle.ec_coherence.specs.System.{System}
 use Rattle.ec_coherence.proofs.Tables.{same_some}
 use Rattle.ec_lawful.specs.Steps as steps
 use Rattle.ec_lawful.specs.Runs.{OfRun}
-use Rattle.ec_quiet.specs.Facts.{IsAnswered, IsIdleBut}
+use Rattle.ec_quiet.specs.Facts.{WantIsAnswered, IsIdleBut}
 use Rattle.ec_quiet.specs.Measure.{sum}
 use Rattle.ec_quiet.specs.Scenes.{IsScene, Scene, done_by}
 use Rattle.ec_quiet.specs.Works.{Pushes, Work}
@@ -38,7 +38,7 @@ use Rattle.ec_complete.specs.Lines.{IsOnLine}
 use Rattle.ec_quiet.specs.First.{HasFirst, IsPush}
 use Rattle.ec_quiet.proofs.Stepping.{nothing-fails}
 use Rattle.ec_quiet.specs.SettlingCounts.{Counts}
-use Rattle.ec_complete.specs.Worlds.{IsCounted, IsKnown, Outset}
+use Rattle.ec_complete.specs.Worlds.{IsCounted, LineIsKnown, Outset}
 use Rattle.ec_complete.specs.Goes.{IsStarted}
 use Rattle.ec_complete.specs.Ready.{IsReady, calls_of}
 use Rattle.ec_complete.proofs.Counts.{calls-then, counted-then, more-made, own-made, unsent-most}
@@ -159,7 +159,7 @@ module _ (outset : Outset) (v : Images) (most : ℕ) (names : List ℕ) (number 
         go true = does-fine
         go false = refl
 
-    module _ (issued : has_issued n k ≡ true) (m : Moving) (m-is : m ≡ clerk_does c (push n k) (moving w)) (holds : steps.Holds F m.world) (steady : Counts 0 w m.world) where
+    module _ (issued : has_issued n k ≡ true) (m : Moving) (m-is : m ≡ clerk_does c (push n k) (moving w)) (holds : steps.HoldsIn F m.world) (steady : Counts 0 w m.world) where
       comes : m ≡ come_out c d.outs behind
       comes = m-is ∙ ap (λ o. elim o as (λ z. Moving) [ Some s ↦ fails (fault.Spent s) w | None ↦ come_out c d.outs behind ]) begins.1
 
@@ -178,8 +178,8 @@ module _ (outset : Outset) (v : Images) (most : ℕ) (names : List ℕ) (number 
       none-waits : {A : Type 0} (a : Clerk) → at c now.clerks ≡ Some a → (a.waiting ≡ [] → ⊥) → A
       none-waits a e f = absurd (f (ap (λ x. x.waiting) (sym (is-it a e)) ∙ alike.waiting ∙ i.waiting))
 
-      answered : (a : Clerk) → at c now.clerks ≡ Some a → Each (IsAnswered a.cache) a.wanted
-      answered a e = subst (λ x. Each (IsAnswered x.cache) x.wanted) (is-it a e) (subst (λ ws. Each (IsAnswered d.clerk.cache) ws) (sym alike.wanted) (subst (λ y. Each (IsAnswered y) k.wanted) (sym alike.cache) i.answered))
+      answered : (a : Clerk) → at c now.clerks ≡ Some a → Each (WantIsAnswered a.cache) a.wanted
+      answered a e = subst (λ x. Each (WantIsAnswered x.cache) x.wanted) (is-it a e) (subst (λ ws. Each (WantIsAnswered d.clerk.cache) ws) (sym alike.wanted) (subst (λ y. Each (WantIsAnswered y) k.wanted) (sym alike.cache) i.answered))
 
       on : (h : System) × IsOnLine j m.world now h
       on = (
@@ -202,7 +202,7 @@ module _ (outset : Outset) (v : Images) (most : ℕ) (names : List ℕ) (number 
       counted = counted-then w m.world sc q.stands q.idle.mail c d stands steady outset (number - 1) number (omega arith) q.counted
           (more-made (number - 1) number (w.sent + sent_in d.outs) (w.sent + sent_in d.outs) d.clerk (omega arith) (omega arith) (pushes-count (number - 1) w.sent n k count))
 
-      abbrev known : IsKnown outset j number m
+      abbrev known : LineIsKnown outset j number m
       known = record { scene = now; stands = stands; phase = begins.0.phase; comes = begins.0.comes; system = on.0; facts = on.1; counted = counted }
 
       made : sum calls_of now.clerks ≤ number - 1
@@ -231,7 +231,7 @@ module _ (outset : Outset) (v : Images) (most : ℕ) (names : List ℕ) (number 
   no-fault f e = absurd (none_some (sym e))
 
   abbrev Steps : ℕ → ℕ → Moving → Type 0
-  Steps c n m = m.fault ≡ None → steps.Holds F m.world → Counts 0 w m.world → IsStepped outset v most names number (line.Push c n) w q m
+  Steps c n m = m.fault ≡ None → steps.HoldsIn F m.world → Counts 0 w m.world → IsStepped outset v most names number (line.Push c n) w q m
 
   of-clerk : (c n : ℕ) (o : Option Clerk) → at c sc.clerks ≡ o → Steps c n (world.push c n o w)
   of-clerk c n None e = λ f h s. no-fault fault.NoSuchOp f

@@ -20,7 +20,7 @@ use Rattle.ec_deliveries.specs.Runs.{AllRun, HasEnded, HasSettled}
 use Rattle.ec_deliveries.proofs.Running.{settles-alike, first-runs, later-run}
 use Rattle.ec_complete.specs.Begins.{bound_for, most_sent}
 use Rattle.ec_complete.specs.Complete.{IsFaultless, IsFaultlessRead}
-use Rattle.ec_complete.specs.Goes.{GoesOn, LinesGoOn}
+use Rattle.ec_complete.specs.Goes.{LineGoesOn, LinesGoOn}
 use Rattle.ec_complete.specs.Worlds.{Outset}
 use Rattle.ec_complete.specs.Ready.{IsReady}
 use Rattle.ec_complete.specs.Scripts.{AreNamed}
@@ -98,7 +98,7 @@ module _ (go-on : LinesGoOn) (outset : Outset) (v : Images) (most : ℕ) (names 
   up number w q = subst (λ o. T (is_some o)) (sym q.stands.server) tt
 
   -- a line that goes on
-  module _ (l : Line) (column : ℕ) (ls : List Read) (fs : List Fates) (number : ℕ) (w : World) (q : IsReady outset v most names number w) (few : number ≤ 65536) (faultless : IsFaultless l) (goes : GoesOn outset v most names number l w q) where
+  module _ (l : Line) (column : ℕ) (ls : List Read) (fs : List Fates) (number : ℕ) (w : World) (q : IsReady outset v most names number w) (few : number ≤ 65536) (faultless : IsFaultless l) (goes : LineGoesOn outset v most names number l w q) where
     abbrev then : Moving
     then = settle k [] (line_happens runs number l w)
 
@@ -153,7 +153,7 @@ module _ (go-on : LinesGoOn) (outset : Outset) (v : Images) (most : ℕ) (names 
           small : number ≤ 65536
           small = less number (length ls) few
 
-          goes : GoesOn outset v most names number l w q
+          goes : LineGoesOn outset v most names number l w q
           goes = go-on outset v most names number l column w q sixteen first small a.0 fit.0 (each-left (λ c. T (member c names)) (clerk_in l) (named_in ls) named) e
 
           then-by : (o : Option WorldFault) → (settle k [] (line_happens runs number l w)).fault ≡ o → WritesBehind base (l ∷ lines_in ls) w.shown (run_from k number (reads l column ∷ ls) fs w)

@@ -151,7 +151,7 @@ module _ (j : Work) (w : World) (sc : Scene) (g : System) (p q : Phase) (c : ℕ
   pub stays-open : (a : ℕ) (sl : Slot) → slot sc.server.durable a ≡ Some sl → T sl.is_open → InSlot t.server a sl.session
   stays-open a sl here opened = let r = runs a sl here opened in in-slot j after q iq a r.clerk sl.session r.there r.inside
 
-  module _ (γ : Ghost) (st : commits.Stands g t γ) (mk : Makes g sc.server t.rec γ) where
+  module _ (γ : Ghost) (st : commits.StepStands g t γ) (mk : Makes g sc.server t.rec γ) where
     abbrev h : System
     h = serving_in t γ g
 

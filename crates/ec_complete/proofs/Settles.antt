@@ -19,7 +19,7 @@ use Rattle.ec_quiet.specs.Phases.{InPhase, Phase, backs}
 use Rattle.ec_quiet.specs.Quiet.{IsIdle}
 use Rattle.ec_quiet.specs.Scenes.{IsScene, Scene}
 use Rattle.ec_quiet.specs.Works.{Work}
-use Rattle.ec_quiet.specs.Bounds.{IsFirst}
+use Rattle.ec_quiet.specs.Bounds.{IsFirstPhase}
 use Rattle.ec_quiet.specs.SettlingScenes.{here}
 use Rattle.ec_quiet.specs.Settling.{IsSettled}
 use Rattle.ec_quiet.specs.SettlingCounts.{Counts}
@@ -27,7 +27,7 @@ use Rattle.ec_quiet.proofs.Mail.{few, pending-is}
 use Rattle.ec_deliveries.specs.Runs.{HasEnded, HasSettled}
 use Rattle.ec_complete.specs.Begins.{IsBegun, bound_for, most_sent}
 use Rattle.ec_complete.specs.Complete.{IsFaultless}
-use Rattle.ec_complete.specs.Worlds.{IsEarly, IsKnown, Outset}
+use Rattle.ec_complete.specs.Worlds.{IsEarly, LineIsKnown, Outset}
 use Rattle.ec_complete.specs.Goes.{HasStarted, IsStarted}
 use Rattle.ec_complete.proofs.Laws.{calls-send, lines-can-go-on, lines-can-settle, lines-settle, lines-settle-or-end, lines-settled, measure-most, nothing-due, pushes-send, rows-few}
 use Rattle.ec_complete.proofs.Tables.{few-named}
@@ -35,8 +35,8 @@ use Rattle.ec_base.proofs.Options.{none_some}
 use Rattle.ec_quiet.proofs.Settled.{stops}
 
 -- Work that is in a phase in which lines begin, where clerks have names and few operations are undurable.
-module _ (outset : Outset) (names : List ℕ) (number : ℕ) (j : Work) (m : Moving) (now : Scene) (i : IsScene m.world now) (known : IsKnown outset j number m) (few-touched : length j.touched ≤ 137) (named : (a : ℕ) (b : Clerk) → at a now.clerks ≡ Some b → T (member a names)) where
-  pub work-begins : (p : Phase) → IsFirst p → InPhase j now p → backs j now.mail ≡ [] → T (is_some (at j.clerk now.clerks)) → ((sl : Slot) → slot now.server.durable j.clerk ≡ Some sl → sl.is_open ≡ true → sl.session ≡ j.session) → sum (unsent_by j) now.clerks ≤ 65535
+module _ (outset : Outset) (names : List ℕ) (number : ℕ) (j : Work) (m : Moving) (now : Scene) (i : IsScene m.world now) (known : LineIsKnown outset j number m) (few-touched : length j.touched ≤ 137) (named : (a : ℕ) (b : Clerk) → at a now.clerks ≡ Some b → T (member a names)) where
+  pub work-begins : (p : Phase) → IsFirstPhase p → InPhase j now p → backs j now.mail ≡ [] → T (is_some (at j.clerk now.clerks)) → ((sl : Slot) → slot now.server.durable j.clerk ≡ Some sl → sl.is_open ≡ true → sl.session ≡ j.session) → sum (unsent_by j) now.clerks ≤ 65535
       → IsStarted outset (length (once names)) number m
   work-begins p first comes none there own unsent = inl (record {
     work = j;

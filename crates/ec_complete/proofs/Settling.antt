@@ -23,20 +23,20 @@ use Rattle.ec_deliveries.proofs.Led.{deliveries-lead-on}
 use Rattle.ec_deliveries.proofs.Spending.{deliveries-have-next}
 use Rattle.ec_deliveries.specs.Runs.{CanGoOn, CanSettle}
 use Rattle.ec_complete.specs.Begins.{most_sent}
-use Rattle.ec_complete.specs.Worlds.{IsCounted, IsEarly, IsKnown, LinesCanGoOn, LinesCanSettle, LinesStayKnown, Outset}
+use Rattle.ec_complete.specs.Worlds.{IsCounted, IsEarly, LineIsKnown, LinesCanGoOn, LinesCanSettle, LinesStayKnown, Outset}
 use Rattle.ec_complete.proofs.Spare as spares
 use Rattle.ec_complete.proofs.Following.{same-scene}
 
 module _ (can-next : CanTakeNext) (stay-on : LinesStayOn) (are-spare : CountersAreSpare) (stay-given : IdsStayGiven) (count-server : DeliveriesCount) (count-clerks : DeliveriesCountClerks)
     (outset : Outset) (j : Work) (calls : ℕ) (few-calls : calls ≤ max_calls) where
-  spare : (r : Moving) (known : IsKnown outset j calls r) → r.world.sent ≤ most_sent → (p : Phase) → InPhase j known.scene p → IsSpare j known.scene
+  spare : (r : Moving) (known : LineIsKnown outset j calls r) → r.world.sent ≤ most_sent → (p : Phase) → InPhase j known.scene p → IsSpare j known.scene
   spare r known le p q = are-spare 0 outset.session outset.first calls j r.world known.scene known.system p (spares.below outset calls r.world known.scene known.stands known.counted few-calls le) known.facts known.stands q
 
-  takes : (r : Moving) (known : IsKnown outset j calls r) → r.world.sent ≤ most_sent → (p : Phase) (t : ℕ × Msg) (rest : Mail) → InPhase j known.scene p → known.scene.mail ≡ t ∷ rest → HasNext t.1 known.scene.server → CanTake j known.scene p t
+  takes : (r : Moving) (known : LineIsKnown outset j calls r) → r.world.sent ≤ most_sent → (p : Phase) (t : ℕ × Msg) (rest : Mail) → InPhase j known.scene p → known.scene.mail ≡ t ∷ rest → HasNext t.1 known.scene.server → CanTake j known.scene p t
   takes r known le p t rest q head next = can-next j r.world known.scene known.system p t rest known.facts (spare r known le p q) known.stands q head next
 
   -- one delivery
-  module _ (r : Moving) (known : IsKnown outset j calls r) (n : ℕ) (le : r.world.sent ≤ most_sent) (is-due : due r.world ≡ Some n) (fine : (deliver runs n r.world).fault ≡ None) where
+  module _ (r : Moving) (known : LineIsKnown outset j calls r) (n : ℕ) (le : r.world.sent ≤ most_sent) (is-due : due r.world ≡ Some n) (fine : (deliver runs n r.world).fault ≡ None) where
     abbrev sc : Scene
     sc = known.scene
 
@@ -50,7 +50,7 @@ module _ (can-next : CanTakeNext) (stay-on : LinesStayOn) (are-spare : CountersA
       stands : IsScene (deliver runs n r.world).world (delivered t.0 t.1 rest sc)
       stands = subst (λ z. IsScene (deliver runs z r.world).world (delivered t.0 t.1 rest sc)) same (delivering.scene-then r.world sc known.stands t.0 t.1 rest head (subst (λ z. (deliver runs z r.world).fault ≡ None) (sym same) fine))
 
-      then : IsKnown outset j calls (behind r n fine)
+      then : LineIsKnown outset j calls (behind r n fine)
       then =
           let led = deliveries-lead-on j sc known.phase t rest known.comes (takes r known le known.phase t rest known.comes head (deliveries-have-next j r.world sc known.phase t rest n known.stands known.comes head is-due fine)) head in
           let s = spare r known le known.phase known.comes in
@@ -69,15 +69,15 @@ module _ (can-next : CanTakeNext) (stay-on : LinesStayOn) (are-spare : CountersA
             };
           }
 
-    goes-on : (ms : Mail) → sc.mail ≡ ms → IsKnown outset j calls (behind r n fine)
+    goes-on : (ms : Mail) → sc.mail ≡ ms → LineIsKnown outset j calls (behind r n fine)
     goes-on (t ∷ rest) head = then t rest head
     goes-on [] head = absurd (bad (sym (delivering.none-due r.world sc known.stands head) ∙ is-due))
       where
         bad : ◌≡◌ {A = Option ℕ} None (Some n) → ⊥
         bad e = grind (arith, e)
 
-    pub onward-known : IsKnown outset j calls (onward r (deliver runs n r.world))
-    onward-known = subst (IsKnown outset j calls) (sym (onward-is r n fine)) (goes-on sc.mail refl)
+    pub onward-known : LineIsKnown outset j calls (onward r (deliver runs n r.world))
+    onward-known = subst (LineIsKnown outset j calls) (sym (onward-is r n fine)) (goes-on sc.mail refl)
 
   -- messages aren't taken back
   more : (w : World) (n : ℕ) → w.sent ≤ (deliver runs n w).world.sent
@@ -93,7 +93,7 @@ module _ (can-next : CanTakeNext) (stay-on : LinesStayOn) (are-spare : CountersA
       go None e = (count-server 0 0 w n (λ v f. absurd (none-some v (sym e ∙ f)))).1
       go (Some u) e = (count-server u.number u.durable.next_session w n (λ v f. (omega (arith, ap (λ (x : Server). x.number) (some u v (sym e ∙ f))), omega (arith, ap (λ (x : Server). x.durable.next_session) (some u v (sym e ∙ f)))))).1
 
-  stays : (m r : Moving) → IsKnown outset j calls m → Reaches m r → r.world.sent ≤ most_sent → IsKnown outset j calls r
+  stays : (m r : Moving) → LineIsKnown outset j calls m → Reaches m r → r.world.sent ≤ most_sent → LineIsKnown outset j calls r
   stays m r known here le = known
   stays m _ known (on r n reached is-due fine) le =
       let less : r.world.sent ≤ most_sent = at-most r n fine (more r.world n) le in
@@ -102,7 +102,7 @@ module _ (can-next : CanTakeNext) (stay-on : LinesStayOn) (are-spare : CountersA
       at-most : (r : Moving) (n : ℕ) → (deliver runs n r.world).fault ≡ None → r.world.sent ≤ (deliver runs n r.world).world.sent → (onward r (deliver runs n r.world)).world.sent ≤ most_sent → r.world.sent ≤ most_sent
       at-most r n f more l = let same = ap (λ (x : Moving). x.world.sent) (onward-is r n f) in omega (arith, more, l, same)
 
-  can-go-on : (m : Moving) → IsKnown outset j calls m → CanGoOn j m most_sent
+  can-go-on : (m : Moving) → LineIsKnown outset j calls m → CanGoOn j m most_sent
   can-go-on m known = record {
     takes = λ r sc p t rest reached le i q head next.
         (let here-known = stays m r known reached le in
@@ -110,7 +110,7 @@ module _ (can-next : CanTakeNext) (stay-on : LinesStayOn) (are-spare : CountersA
         subst (λ z. CanTake j z p t) (sym same) (takes r here-known le p t rest (subst (λ z. InPhase j z p) same q) (ap (λ (z : Scene). z.mail) (sym same) ∙ head) (subst (λ (z : Scene). HasNext t.1 z.server) same next)));
   }
 
-  can-settle : NextIsSpare → IsEarly outset → (m : Moving) → IsKnown outset j calls m → CanSettle j m most_sent
+  can-settle : NextIsSpare → IsEarly outset → (m : Moving) → LineIsKnown outset j calls m → CanSettle j m most_sent
   can-settle next-spare early m known = record {
     takes = λ r sc p t rest reached le i q head.
         (let here-known = stays m r known reached le in
@@ -122,7 +122,7 @@ module _ (can-next : CanTakeNext) (stay-on : LinesStayOn) (are-spare : CountersA
         spares.far outset calls r.world sc i (subst (IsCounted outset calls r.world) (sym same) here-known.counted) few-calls le);
   }
     where
-      next : (r : Moving) (known : IsKnown outset j calls r) → r.world.sent ≤ most_sent → (x : Msg) → HasNext x known.scene.server
+      next : (r : Moving) (known : LineIsKnown outset j calls r) → r.world.sent ≤ most_sent → (x : Msg) → HasNext x known.scene.server
       next r known le x = next-spare 0 outset.session outset.first calls j r.world known.scene known.system known.phase (spares.below outset calls r.world known.scene known.stands known.counted few-calls le)
           (spares.far-below outset calls r.world known.scene known.stands known.counted few-calls le early) known.facts known.stands known.comes x
 

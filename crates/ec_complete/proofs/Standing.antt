@@ -6,7 +6,7 @@ use Rattle.ec_durable.specs.Durable.{slot}
 use Rattle.ec_protocol.specs.declared.clerk.Clerk.{Clerk}
 use Rattle.ec_protocol.specs.declared.server.Server.{Server}
 use Rattle.ec_coherence.proofs.Tables.{same_some}
-use Rattle.ec_quiet.specs.Facts.{IsIdleBut, clerk_of}
+use Rattle.ec_quiet.specs.Facts.{IsIdleBut, session_clerk as clerk_of}
 use Rattle.ec_quiet.specs.Phases.{Phase, Greets, Opens, Claims, Wants, Recalls, Flushes, Keeps, Grants, Asks, Gives, Refuses, Saves, Saved, Ends, InPhase, IsRecalled, IsStarting, IsWorking, excepted, is_busy}
 use Rattle.ec_quiet.specs.Scenes.{Scene}
 use Rattle.ec_quiet.specs.Works.{Work}

@@ -33,7 +33,7 @@ use Rattle.ec_quiet.specs.Phases.{Phase, Greets, Opens, Claims, Wants, Recalls, 
 use Rattle.ec_quiet.specs.Quiet.{IsQuiet}
 use Rattle.ec_quiet.specs.Scenes.{IsScene, Scene, done_by}
 use Rattle.ec_quiet.specs.Works.{Calls, Work, is_saving}
-use Rattle.ec_quiet.specs.Bounds.{IsFirst}
+use Rattle.ec_quiet.specs.Bounds.{IsFirstPhase}
 use Rattle.ec_quiet.proofs.Beside.{other-at, own-at}
 use Rattle.ec_agreed_lines.specs.Counting as clerks
 use Rattle.ec_agreed_lines.specs.Counting.{sent_in}
@@ -42,7 +42,7 @@ use Rattle.ec_complete.specs.Lines.{IsOnLine}
 use Rattle.ec_complete.specs.LineCalls.{IsCalledFirst}
 use Rattle.ec_quiet.specs.First.{HasFirst, IsStart, start_calling}
 use Rattle.ec_quiet.proofs.Stepping.{carried}
-use Rattle.ec_complete.specs.Worlds.{IsCounted, IsKnown, Outset}
+use Rattle.ec_complete.specs.Worlds.{IsCounted, LineIsKnown, Outset}
 use Rattle.ec_complete.specs.Goes.{IsStarted}
 use Rattle.ec_complete.specs.Ready.{IsReady, calls_of}
 use Rattle.ec_complete.proofs.Counts.{calls-first, counted-then, more-made, unsent-first, unsent-most}
@@ -166,7 +166,7 @@ module _ (outset : Outset) (v : Images) (most : ℕ) (names : List ℕ) (number 
   not-working : {A : Type 0} (xs : List ℕ) (sl : Slot) (k : Clerk) → IsWorking xs j now sl k → A
   not-working xs sl k i = absurd (not-open sl i.inside.there i.inside.is_open)
 
-  as-greets : (p : Phase) → IsFirst p → InPhase j now p → (age : Age) × InPhase j now (Greets age)
+  as-greets : (p : Phase) → IsFirstPhase p → InPhase j now p → (age : Age) × InPhase j now (Greets age)
   as-greets (Greets age) f i = (age, i)
   as-greets (Wants x h n) f i = let p = i.facts.1 in not-working [] p.slot p.clerk p.working
   as-greets (Asks again got ask) f i = let p = i.facts.1 in not-working [] p.slot p.clerk p.working
@@ -198,7 +198,7 @@ module _ (outset : Outset) (v : Images) (most : ℕ) (names : List ℕ) (number 
   counted = counted-then w m.world sc q.stands q.idle.mail c e come.1 (calls-send w c number cl) outset (number - 1) number (omega arith) q.counted
       (more-made 1 number (w.sent + sent_in (begin cl (start c next).clerk).outs) (w.sent + sent_in e.outs) e.clerk first (omega (arith, sent-both (start c next).outs (begin cl (start c next).clerk).outs)) own)
 
-  abbrev known : IsKnown outset j number m
+  abbrev known : LineIsKnown outset j number m
   known = record { scene = now; stands = come.1; phase = Greets phase.0; comes = phase.1; system = on.0; facts = on.1; counted = counted }
 
   made : sum calls_of now.clerks ≤ number

@@ -50,7 +50,7 @@ module _ (j : Work) (l : ℕ) (cl : Call) (w : World) (sc now : Scene) (g : Syst
   abbrev F : System → Type 0
   F = OfRun g.origin g.durable.max_objects
 
-  holds : steps.Holds F u
+  holds : steps.HoldsIn F u
   holds = event-holds F (keep clerks-keep-all g.origin g.durable.max_objects) runs (event.Call j.clerk l cl) w (g, record { whole = is.whole; origin = refl; most_is = refl }, is.stands) (new, is.clerk, is.bounded) f
 
   starting : IsStarting j now age
@@ -80,7 +80,7 @@ module _ (j : Work) (l : ℕ) (cl : Call) (w : World) (sc now : Scene) (g : Syst
       kept-same : (h : System) → F h → Stands u h → kept_volume h ≡ kept_volume g
       kept-same h fh sh = first-steps-leave j w u sc now g h (Greets age) is.whole is.stands is.scene is.idle fh.whole sh then fh.origin server step iq tt
 
-      go : steps.Holds F u → (h : System) × IsOnLine j u now h × LeavesVolume j now g h × Touches h
+      go : steps.HoldsIn F u → (h : System) × IsOnLine j u now h × LeavesVolume j now g h × Touches h
       go (h, fh, sh) = (
         h,
         record {

@@ -37,7 +37,7 @@ use Rattle.ec_clerk_steps.proofs.Stilling.{are-still}
 use Rattle.ec_clerk_steps.specs.Fulls.{IsFullAt}
 use Rattle.ec_clerk_steps.proofs.Sent.{own-full, take-own}
 use Rattle.ec_clerk_steps.specs.Frees.{FullsAgree}
-use Rattle.ec_clerk_steps.specs.JoinLaws.{joined}
+use Rattle.ec_clerk_steps.specs.JoinLaws.{ghosts_joined}
 use Rattle.ec_lawful.specs.Whole.{Whole}
 use Rattle.ec_lawful.specs.SettleLaws.{IsLined}
 use Rattle.ec_lawful.proofs.Beginning.{begins}
@@ -51,7 +51,7 @@ use Rattle.ec_lawful.proofs.Clerks.{clerks-keep-all}
 use Rattle.ec_lawful.proofs.Forgets.{forgets}
 use Rattle.ec_lawful.proofs.Taken.{messages-stand}
 use Rattle.ec_lawful.proofs.Tried.{ShownTried, tried}
-use Rattle.ec_lawful.specs.Steps.{IsDone}
+use Rattle.ec_lawful.specs.Steps.{StepIsDone}
 use Rattle.ec_quiet.specs.Tries.{left_by}
 use Rattle.ec_quiet.proofs.Steps.{tries-none, tries-one}
 
@@ -101,7 +101,7 @@ waits-on (msg.Claim s e l) k a = refl
 waits-on (msg.Bye s e) k a = refl
 
 -- what a message makes of the ghosts leaves what is kept
-pub joined-kept : (c : ℕ) (m : Msg) (d : Doing) (γ : Ghost) → (joined c m d γ).kept ≡ γ.kept
+pub joined-kept : (c : ℕ) (m : Msg) (d : Doing) (γ : Ghost) → (ghosts_joined c m d γ).kept ≡ γ.kept
 joined-kept c (msg.Opened age s e) d γ = go (not (has_session d.clerk) && Rattle.ec_protocol.specs.Clerk.same_age age d.clerk.age)
   where
     go : (b : Bool) → (elim b as (λ z. Ghost) [ true ↦ Rattle.ec_coherence.specs.Clerks.take_session s γ | false ↦ γ ]).kept ≡ γ.kept
@@ -181,12 +181,12 @@ module _ (g : System) (whole : Whole g) (c b : ℕ) (k : Clerk) (runs : g.runnin
   pub answers-steps : (take m k).clerk.waiting ≡ [] → LeavesOrAnswers
   answers-steps none = by (clerks-keep-all.messages g c b k whole runs there m sent)
     where
-      by : IsDone Whole g c b (take m k) → LeavesOrAnswers
+      by : StepIsDone Whole g c b (take m k) → LeavesOrAnswers
       by (inl s) = inl s
       by (inr (γ, shown, w)) = inr (γ, (shown, w), inr none)
 
   abbrev joins : Ghost
-  joins = joined c m (doing k) g.ghost
+  joins = ghosts_joined c m (doing k) g.ghost
 
   -- a message that answers no call, to a clerk without one
   pub idle-leaves : AnswersNone k m → k.waiting ≡ [] → Leaves

@@ -12,7 +12,7 @@ use Rattle.ec_durable.specs.Durable.{is_full}
 use Rattle.ec_protocol.specs.Server.{has_claimed}
 use Rattle.ec_coherence.specs.Invariant.{Invariant}
 use Rattle.ec_coherence.specs.System.{System, clerk_in}
-use Rattle.ec_quiet.specs.Facts.{clerk_of}
+use Rattle.ec_quiet.specs.Facts.{session_clerk}
 use Rattle.ec_quiet.specs.Phases.{Phase, Greets, Opens, Claims, Wants, Recalls, Flushes, Keeps, Grants, Asks, Gives, Refuses, Saves, Saved, Ends, InPhase, IsAsking, IsRecalled, IsSaving, main, messages, is_back, is_back_message}
 use Rattle.ec_quiet.specs.Scenes.{Mail, Scene}
 use Rattle.ec_quiet.specs.Works.{Work}
@@ -47,12 +47,12 @@ back-suits j sc m e = go m.1 e
     go (msg.OldBoot a x) q = tt
 
 module _ (g : System) (sc : Scene) (inv : Invariant g) (seen : IsSeen g sc) (j : Work) (spare : IsSpare j sc) where
-  holder-taken : (x : ℕ) (h : Hold) (r : Holder) (b : ℕ) (ops : Issued) (more : Bool) → InPhase j sc (Flushes x h r b ops more) → IsTaken (clerk_of sc.server r.0) r.0 b ops sc.server
+  holder-taken : (x : ℕ) (h : Hold) (r : Holder) (b : ℕ) (ops : Issued) (more : Bool) → InPhase j sc (Flushes x h r b ops more) → IsTaken (session_clerk sc.server r.0) r.0 b ops sc.server
   holder-taken x h r b ops more ip =
       let q : IsRecalled 1 sc x h r b more = ip.facts.1 in
-      let start = seen.clerks (clerk_of sc.server r.0) q.clerk q.there in
-      let there : clerk_in g r.0 ≡ Some q.clerk = clerk-there g inv.sessions (clerk_of sc.server r.0) start.0 r.0 q.clerk start.1 (q.inside.session ∙ ap Some q.session) in
-      batch-taken g sc.server inv seen.server seen.durable (clerk_of sc.server r.0) r.0 b ops q.slot q.clerk q.sending.numbers q.inside.there q.session q.inside.is_open
+      let start = seen.clerks (session_clerk sc.server r.0) q.clerk q.there in
+      let there : clerk_in g r.0 ≡ Some q.clerk = clerk-there g inv.sessions (session_clerk sc.server r.0) start.0 r.0 q.clerk start.1 (q.inside.session ∙ ap Some q.session) in
+      batch-taken g sc.server inv seen.server seen.durable (session_clerk sc.server r.0) r.0 b ops q.slot q.clerk q.sending.numbers q.inside.there q.session q.inside.is_open
       (sym (ap (λ s. has_claimed s sc.server) q.session) ∙ q.inside.claimed) there (ap (at b) q.sending.alone ∙ at-only b q.sending.numbers) (batch-new q.slot q.clerk.log b q.window q.sending) ip.facts.2
 
   own-taken : (b : ℕ) (ops : Issued) (more : Bool) → InPhase j sc (Saves b ops more) → IsTaken j.clerk j.session b ops sc.server

@@ -39,7 +39,7 @@ use Rattle.ec_lawful.proofs.Beginning.{begins}
 use Rattle.ec_lawful.specs.Rooms.{unasked}
 use Rattle.ec_lawful.proofs.Forgets.{forgets}
 use Rattle.ec_lawful.proofs.Plain.{takes-grant-so, takes-ids-so, takes-kept-so}
-use Rattle.ec_quiet.specs.Facts.{IsAnswered, IsIn, clerk_of}
+use Rattle.ec_quiet.specs.Facts.{WantIsAnswered, IsIn, session_clerk}
 use Rattle.ec_quiet.specs.Phases.{Phase, Greets, Opens, Claims, Wants, Recalls, Flushes, Keeps, Grants, Asks, Gives, Refuses, Saves, Saved, Ends, InPhase, IsAged, IsAsking, IsSaving, IsWanting, main, messages, is_back, is_back_message}
 use Rattle.ec_quiet.specs.Scenes.{IsScene, Mail, Scene, is_for_server}
 use Rattle.ec_quiet.specs.Works.{Calls, HasTask, Pushes, Task, Work, is_saving}
@@ -169,7 +169,7 @@ module _ (j : Work) (w : World) (sc : Scene) (g : System) (on : IsOnLine j w sc 
 
   -- a pushed operation wants nothing
   pub unanswered : (x : ℕ) (h : Hold) (k : Clerk) (n : ℕ) → j.task ≡ Pushes n → at j.clerk sc.clerks ≡ Some k → (earlier : List Rattle.ec_protocol.specs.declared.clerk.Wanted.Wanted) → k.wanted ≡ wanted x h k ∷ earlier → ⊥
-  unanswered x h k n e there earlier q = above (last x k.cache) (subst (Each (IsAnswered k.cache)) q (on.answered n e k there)).0
+  unanswered x h k n e there earlier q = above (last x k.cache) (subst (Each (WantIsAnswered k.cache)) q (on.answered n e k there)).0
     where
       above : (a : ℕ) → a < a → ⊥
       above a l = omega (arith, l)
@@ -374,9 +374,9 @@ module _ (j : Work) (w : World) (sc : Scene) (g : System) (on : IsOnLine j w sc 
     its-head a more e = subst (Contains g.pool) (sym (head-same a m more others e)) sent
 
     may-take : (p : Phase) → InPhase j sc p → messages j sc p ≡ m ∷ others → MayTake j sc p
-    may-take (Recalls x h (r ∷ rs) bs) ip e = λ k there. (spare.clerks (clerk_of sc.server r.0) k there).batches
+    may-take (Recalls x h (r ∷ rs) bs) ip e = λ k there. (spare.clerks (session_clerk sc.server r.0) k there).batches
     may-take (Recalls x h [] bs) ip e = tt
-    may-take (Keeps x h r b more) ip e = λ k there. (spare.clerks (clerk_of sc.server r.0) k there).batches
+    may-take (Keeps x h r b more) ip e = λ k there. (spare.clerks (session_clerk sc.server r.0) k there).batches
     may-take (Grants x h n) ip e = (numbers-given g sc inv seen j x n h ip, grant-may x h n ip (its-head _ _ e))
     may-take (Gives got n first) ip e = (
       (tables g sc.server inv seen.server seen.durable).numbers j.session first (record { hold = Write; number = n }) ip.facts.6.0.0,

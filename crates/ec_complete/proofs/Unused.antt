@@ -18,7 +18,7 @@ use Rattle.ec_coherence.specs.Tokens.{Names, in_sixteen, is_hidden, is_untaken, 
 use Rattle.ec_coherence.proofs.OpenSlots.{at-open}
 use Rattle.ec_coherence.proofs.Tables.{same_some}
 use Rattle.ec_lawful.specs.Whole.{Whole}
-use Rattle.ec_quiet.specs.Facts.{IsIn, IsNew}
+use Rattle.ec_quiet.specs.Facts.{IsIn, StartIsNew as IsNew}
 use Rattle.ec_quiet.specs.Phases.{InPhase, Phase}
 use Rattle.ec_quiet.specs.Scenes.{IsScene, Scene}
 use Rattle.ec_quiet.specs.Works.{Work}

@@ -19,7 +19,7 @@ abbrev pub most_sent : ℕ
 most_sent = 2 ^ 40
 
 -- The line's work is in a phase in which lines begin, from which it can settle; fewer than k other sessions have tokens, and few operations are undurable.
-pub record Begins (k : ℕ) (m : Moving) : Type 0 where
+pub record BeginsLine (k : ℕ) (m : Moving) : Type 0 where
   pub work : Work
   pub scene : Scene
   pub stands : IsScene m.world scene
@@ -31,7 +31,7 @@ pub record Begins (k : ℕ) (m : Moving) : Type 0 where
 
 -- or it did nothing, and all is idle
 abbrev pub IsBegun : ℕ → Moving → Type 0
-IsBegun k m = Begins k m ⊎ ((sc : Scene) × IsScene m.world sc × IsIdle sc)
+IsBegun k m = BeginsLine k m ⊎ ((sc : Scene) × IsScene m.world sc × IsIdle sc)
 
 -- how many messages are delivered behind a line
 abbrev pub bound_for : ℕ → ℕ

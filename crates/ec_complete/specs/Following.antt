@@ -17,12 +17,12 @@ use Rattle.ec_coherence.specs.Steps.{Stands}
 use Rattle.ec_coherence.specs.System.{System}
 use Rattle.ec_lawful.specs.Steps.{IsNewIn}
 use Rattle.ec_lawful.specs.Whole.{Whole}
-use Rattle.ec_quiet.specs.Facts.{IsAnswered}
+use Rattle.ec_quiet.specs.Facts.{WantIsAnswered}
 use Rattle.ec_quiet.specs.Phases.{InPhase, Phase}
 use Rattle.ec_quiet.specs.Quiet.{IsIdle}
 use Rattle.ec_quiet.specs.Scenes.{IsScene, Scene}
 use Rattle.ec_quiet.specs.Works.{Calls, Pushes, Task, Work}
-use Rattle.ec_quiet.specs.Bounds.{IsFirst}
+use Rattle.ec_quiet.specs.Bounds.{IsFirstPhase}
 use Rattle.ec_quiet.specs.SettlingScenes.{Reaches}
 use Rattle.ec_quiet.specs.First.{IsPush}
 use Rattle.ec_complete.specs.WaitingCalls.{kept_volume, touched_by}
@@ -30,7 +30,7 @@ use Rattle.ec_complete.specs.Lines.{IsOnLine, next_object}
 use Rattle.ec_complete.specs.LineCalls.{IsCalled, IsCalledFirst}
 use Rattle.ec_complete.specs.Spare.{max_calls}
 use Rattle.ec_complete.specs.Begins.{most_sent}
-use Rattle.ec_complete.specs.Worlds.{IsCounted, IsKnown, Outset}
+use Rattle.ec_complete.specs.Worlds.{IsCounted, LineIsKnown, Outset}
 use Rattle.ec_lawful.specs.Headline.{placed_on}
 use Rattle.ec_deliveries.specs.PhasesBehind.{IsBehind, MaySee, saved}
 use Rattle.ec_deliveries.specs.ScriptWorks.{IsWorkOn}
@@ -62,7 +62,7 @@ WorkedLinesSee = (l : Line) (origin v : Images) (j : Work) (w : World) (sc : Sce
 
 -- The line's work is in a phase, in a world of which all facts hold, and it's the line's.
 pub record IsKnownOf (outset : Outset) (l : Line) (origin v : Images) (j : Work) (calls : ℕ) (m : Moving) : Type 0 where
-  pub known : IsKnown outset j calls m
+  pub known : LineIsKnown outset j calls m
   pub worked : IsWorked l origin v j known.scene known.system
 
 -- so it is in each world that deliveries reach, while not too many messages were sent
@@ -96,11 +96,11 @@ CallsBeginBehind = (outset : Outset) (j : Work) (number : ℕ) (cl : call.Call) 
 
 abbrev pub StartsBeginBehind : Type 0
 StartsBeginBehind = (outset : Outset) (j : Work) (number : ℕ) (cl : call.Call) (w : World) (sc : Scene) (g : System) (calls : ℕ) → IsCalledFirst j cl w sc g → IsNewIn w number → (world.call j.clerk number cl w).fault ≡ None
-    → (q : IsKnown outset j calls (world.call j.clerk number cl w)) → IsFirst q.phase → BeginsBehind outset (Call j.clerk cl) g.origin (kept_volume g) j calls (world.call j.clerk number cl w)
+    → (q : LineIsKnown outset j calls (world.call j.clerk number cl w)) → IsFirstPhase q.phase → BeginsBehind outset (Call j.clerk cl) g.origin (kept_volume g) j calls (world.call j.clerk number cl w)
 
 -- behind a push the clerk has no call, and nothing that it wanted is unanswered
 abbrev pub IsUncalled : ℕ → Scene → Type 0
-IsUncalled c s = (k : Clerk) → at c s.clerks ≡ Some k → ((k.waiting ≡ [] → ⊥) → ⊥) × Each (IsAnswered k.cache) k.wanted
+IsUncalled c s = (k : Clerk) → at c s.clerks ≡ Some k → ((k.waiting ≡ [] → ⊥) → ⊥) × Each (WantIsAnswered k.cache) k.wanted
 
 abbrev pub PushesBeginBehind : Type 0
 PushesBeginBehind = (outset : Outset) (j : Work) (n : ℕ) (w : World) (sc : Scene) (g : System) (sl : Slot) (k : Clerk) (v : Images) (calls : ℕ) → Whole g → Stands w g → IsScene w sc → IsIdle sc → IsInOrder sc.server.durable → IsPush j sc sl k n → j.touched ≡ []

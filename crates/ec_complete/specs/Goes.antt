@@ -18,7 +18,7 @@ use Rattle.ec_lawful.specs.DrillRuns.{IsFit}
 use Rattle.ec_lawful.specs.Steps.{IsNewIn}
 use Rattle.ec_quiet.specs.Scenes.{IsScene, Scene}
 use Rattle.ec_quiet.specs.Works.{Work}
-use Rattle.ec_quiet.specs.Bounds.{IsFirst, other_rows}
+use Rattle.ec_quiet.specs.Bounds.{IsFirstPhase, other_rows}
 use Rattle.ec_quiet.specs.First.{HasFirst, IsPush}
 use Rattle.ec_quiet.specs.Measure.{sum, unsent_by}
 use Rattle.ec_quiet.specs.Quiet.{IsIdle}
@@ -26,7 +26,7 @@ use Rattle.ec_complete.specs.LineCalls.{IsCalled, IsCalledFirst}
 use Rattle.ec_deliveries.specs.Runs.{HasEnded, HasSettled}
 use Rattle.ec_complete.specs.Begins.{IsBegun, bound_for, most_sent}
 use Rattle.ec_complete.specs.Complete.{IsFaultless}
-use Rattle.ec_complete.specs.Worlds.{IsEarly, IsKnown, Outset}
+use Rattle.ec_complete.specs.Worlds.{IsEarly, LineIsKnown, Outset}
 use Rattle.ec_complete.specs.Ready.{IsReady}
 
 -- The line's work in the world before it: of a call of a clerk that runs, or starts with it; or of a push of an operation that its clerk issued.
@@ -39,7 +39,7 @@ IsWorkOf _ w sc g j = ⊥
 -- few operations are undurable.
 pub record HasStarted (outset : Outset) (k number : ℕ) (m : Moving) : Type 0 where
   pub work : Work
-  pub known : IsKnown outset work number m
+  pub known : LineIsKnown outset work number m
   pub scene : Scene
   pub stands : IsScene m.world scene
   pub first : HasFirst work scene
@@ -53,10 +53,10 @@ IsStarted outset k number m = HasStarted outset k number m ⊎ ((sc : Scene) × 
 
 -- The line is new, and met no fault in its first step: its work is known, or it did nothing. If it ends without a fault it settled, and the world is ready for
 -- the next line; else it ended in a delivery.
-pub record GoesOn (outset : Outset) (v : Images) (most : ℕ) (names : List ℕ) (number : ℕ) (l : Line) (w : World) (q : IsReady outset v most names number w) : Type 0 where
+pub record LineGoesOn (outset : Outset) (v : Images) (most : ℕ) (names : List ℕ) (number : ℕ) (l : Line) (w : World) (q : IsReady outset v most names number w) : Type 0 where
   pub new : IsNewIn w number
   pub fine : (line_happens runs number l w).fault ≡ None
-  pub known : ((j : Work) × IsWorkOf l w q.scene q.system j × (k : IsKnown outset j number (line_happens runs number l w)) × IsFirst k.phase) ⊎ IsScene (line_happens runs number l w).world q.scene
+  pub known : ((j : Work) × IsWorkOf l w q.scene q.system j × (k : LineIsKnown outset j number (line_happens runs number l w)) × IsFirstPhase k.phase) ⊎ IsScene (line_happens runs number l w).world q.scene
   pub started : IsStarted outset (length (once names)) number (line_happens runs number l w)
   pub ends : (settle (bound_for (length (once names))) [] (line_happens runs number l w)).fault ≡ None
       → HasSettled (bound_for (length (once names))) (line_happens runs number l w) (settle (bound_for (length (once names))) [] (line_happens runs number l w))
@@ -67,7 +67,7 @@ pub record GoesOn (outset : Outset) (v : Images) (most : ℕ) (names : List ℕ)
 
 -- It settles, and the world is ready for the next line.
 pub record GoesThrough (outset : Outset) (v : Images) (most : ℕ) (names : List ℕ) (number : ℕ) (l : Line) (w : World) (q : IsReady outset v most names number w) : Type 0 where
-  pub goes : GoesOn outset v most names number l w q
+  pub goes : LineGoesOn outset v most names number l w q
   pub begun : IsBegun (length (once names)) (line_happens runs number l w)
   pub settled : HasSettled (bound_for (length (once names))) (line_happens runs number l w) (settle (bound_for (length (once names))) [] (line_happens runs number l w))
   pub next : IsReady outset v most names (number + 1) (forget (settle (bound_for (length (once names))) [] (line_happens runs number l w)).world)
@@ -85,7 +85,7 @@ PushesGo = (outset : Outset) (v : Images) (most : ℕ) (names : List ℕ) (numbe
 -- Each line that meets no fault in its first step goes on, one of the first 65,536, where its clerk has one of at most 16 names.
 abbrev pub LinesGoOn : Type 0
 LinesGoOn = (outset : Outset) (v : Images) (most : ℕ) (names : List ℕ) (number : ℕ) (l : Line) (column : ℕ) (w : World) (q : IsReady outset v most names number w) → length (once names) ≤ 16 → 1 ≤ number → number ≤ 65536 → IsFaultless l → IsFit (reads l column)
-    → Each (λ c. T (member c names)) (clerk_in l) → (line_happens runs number l w).fault ≡ None → GoesOn outset v most names number l w q
+    → Each (λ c. T (member c names)) (clerk_in l) → (line_happens runs number l w).fault ≡ None → LineGoesOn outset v most names number l w q
 
 -- Where counters were far below their limits each settles, if a push meets no fault.
 abbrev pub LinesGoThrough : Type 0

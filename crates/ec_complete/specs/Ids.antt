@@ -5,12 +5,12 @@ use Rattle.ec_volume.specs.Volume.{Images, WellFormed}
 use Rattle.ec_volume.specs.declared.image.Image.TheVariants.{Gone}
 use Rattle.ec_history.specs.declared.shown.Shown.{Shown}
 use Rattle.ec_history.specs.declared.shown.Shown.TheVariants.{Answered}
-use Rattle.ec_machine_laws.specs.Answers.{Asking, Plainly, after_call, answers_to, first_of, none_yet, outcome_on}
+use Rattle.ec_machine_laws.specs.Answers.{Asking, Plainly, after_call, answers_to, first_number, none_yet, outcome_on}
 
 -- What the calls come to, one behind the other.
 abbrev pub behind_calls : Images → Plainly → List ℕ → List Asking → Plainly
 behind_calls v s ids [] = s
-behind_calls v s ids (q ∷ qs) = behind_calls v (after_call s q.1 (outcome_on v s q.2 (first_of ids)).update) (drop 1 ids) qs
+behind_calls v s ids (q ∷ qs) = behind_calls v (after_call s q.1 (outcome_on v s q.2 (first_number ids)).update) (drop 1 ids) qs
 
 -- each is above the one before it, and the first one above this
 abbrev pub AreAbove : ℕ → List ℕ → Type 0

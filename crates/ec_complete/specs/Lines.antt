@@ -17,7 +17,7 @@ use Rattle.ec_protocol.specs.declared.world.World.{World}
 use Rattle.ec_coherence.specs.Steps.{Stands}
 use Rattle.ec_coherence.specs.System.{System}
 use Rattle.ec_lawful.specs.Whole.{Whole}
-use Rattle.ec_quiet.specs.Facts.{IsAnswered}
+use Rattle.ec_quiet.specs.Facts.{WantIsAnswered}
 use Rattle.ec_quiet.specs.Phases.{InPhase, Phase}
 use Rattle.ec_quiet.specs.Scenes.{IsScene, Mail, Scene}
 use Rattle.ec_quiet.specs.Works.{Pushes, Work}
@@ -44,7 +44,7 @@ pub record IsOnLine (j : Work) (w : World) (sc : Scene) (g : System) : Type 0 wh
   pub few : length j.touched ≤ max_about
   pub about : (k : Clerk) → at j.clerk sc.clerks ≡ Some k → (k.waiting ≡ [] → ⊥) → IsAbout j (kept_volume g)
   pub id : (k : Clerk) → at j.clerk sc.clerks ≡ Some k → (k.waiting ≡ [] → ⊥) → T (member (next_object sc j.clerk k) j.touched)
-  pub answered : (n : ℕ) → j.task ≡ Pushes n → (k : Clerk) → at j.clerk sc.clerks ≡ Some k → Each (IsAnswered k.cache) k.wanted
+  pub answered : (n : ℕ) → j.task ≡ Pushes n → (k : Clerk) → at j.clerk sc.clerks ≡ Some k → Each (WantIsAnswered k.cache) k.wanted
 
 -- No number of tokens or of grants of ids, and no counter of a clerk, is at its end, and the line's clerk may issue an operation.
 pub record IsSpare (j : Work) (sc : Scene) : Type 0 where

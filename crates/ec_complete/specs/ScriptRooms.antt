@@ -14,7 +14,7 @@ use Rattle.ec_protocol.specs.World.{Moving, call}
 use Rattle.ec_protocol.specs.declared.clerk.Clerk.{Clerk}
 use Rattle.ec_protocol.specs.declared.world.World.{World}
 use Rattle.ec_lawful.specs.Creates.{creates}
-use Rattle.ec_lawful.specs.Steps.{Holds}
+use Rattle.ec_lawful.specs.Steps.{HoldsIn}
 use Rattle.ec_lawful.specs.Runs.{OfRun}
 use Rattle.ec_quiet.specs.Phases.{InPhase, Asks}
 use Rattle.ec_quiet.specs.Quiet.{IsIdle}
@@ -24,7 +24,7 @@ use Rattle.ec_quiet.specs.SettlingScenes.{Reaches}
 use Rattle.ec_complete.specs.Spare.{AreGiven, max_calls}
 use Rattle.ec_complete.specs.Begins.{most_sent}
 use Rattle.ec_complete.specs.SettledRuns.{HasRoom}
-use Rattle.ec_complete.specs.Worlds.{IsKnown, new_outset}
+use Rattle.ec_complete.specs.Worlds.{LineIsKnown, new_outset}
 use Rattle.ec_complete.specs.Rooms.{GrantsRoom, IsStocked}
 use Rattle.ec_base.specs.Bools.{one_if}
 
@@ -58,7 +58,7 @@ pub record KeepsRoom (names callers : List ℕ) (makes : ℕ → ℕ) (m : Movin
 
 -- behind deliveries, in a run on a new disk
 abbrev pub LinesKeepRoom : Type 0
-LinesKeepRoom = (v : Images) (most : ℕ) (names callers : List ℕ) (makes : ℕ → ℕ) (j : Work) (calls : ℕ) (m r : Moving) → IsKnown new_outset j calls m → calls ≤ max_calls → Holds (OfRun v most) m.world → IsRoomFor names makes most
+LinesKeepRoom = (v : Images) (most : ℕ) (names callers : List ℕ) (makes : ℕ → ℕ) (j : Work) (calls : ℕ) (m r : Moving) → LineIsKnown new_outset j calls m → calls ≤ max_calls → HoldsIn (OfRun v most) m.world → IsRoomFor names makes most
     → KeepsRoom names callers makes m → Reaches m r → r.world.sent ≤ most_sent → KeepsRoom names callers makes r
 
 -- Behind the first step of a call, where all was idle: its clerk was asked for one more, if the call makes an object.

@@ -44,7 +44,7 @@ pub record IsCounted (outset : Outset) (calls : ℕ) (w : World) (sc : Scene) : 
   pub ids : AreGiven outset.first sc.server.durable
 
 -- The line's work is in a phase, in a world of which all facts hold.
-pub record IsKnown (outset : Outset) (j : Work) (calls : ℕ) (m : Moving) : Type 0 where
+pub record LineIsKnown (outset : Outset) (j : Work) (calls : ℕ) (m : Moving) : Type 0 where
   pub scene : Scene
   pub stands : IsScene m.world scene
   pub phase : Phase
@@ -55,12 +55,12 @@ pub record IsKnown (outset : Outset) (j : Work) (calls : ℕ) (m : Moving) : Typ
 
 -- so it is in each world that deliveries reach, while not too many messages were sent
 abbrev pub LinesStayKnown : Type 0
-LinesStayKnown = (outset : Outset) (j : Work) (calls : ℕ) (m r : Moving) → IsKnown outset j calls m → calls ≤ max_calls → Reaches m r → r.world.sent ≤ most_sent → IsKnown outset j calls r
+LinesStayKnown = (outset : Outset) (j : Work) (calls : ℕ) (m r : Moving) → LineIsKnown outset j calls m → calls ≤ max_calls → Reaches m r → r.world.sent ≤ most_sent → LineIsKnown outset j calls r
 
 -- and so the line can settle, where counters were far below their limits
 abbrev pub LinesCanSettle : Type 0
-LinesCanSettle = (outset : Outset) (j : Work) (calls : ℕ) (m : Moving) → IsKnown outset j calls m → calls ≤ max_calls → IsEarly outset → CanSettle j m most_sent
+LinesCanSettle = (outset : Outset) (j : Work) (calls : ℕ) (m : Moving) → LineIsKnown outset j calls m → calls ≤ max_calls → IsEarly outset → CanSettle j m most_sent
 
 -- and it can go on, as far as counters reach
 abbrev pub LinesCanGoOn : Type 0
-LinesCanGoOn = (outset : Outset) (j : Work) (calls : ℕ) (m : Moving) → IsKnown outset j calls m → calls ≤ max_calls → CanGoOn j m most_sent
+LinesCanGoOn = (outset : Outset) (j : Work) (calls : ℕ) (m : Moving) → LineIsKnown outset j calls m → calls ≤ max_calls → CanGoOn j m most_sent

@@ -12,7 +12,7 @@ use Rattle.ec_durable.specs.Durable.{slot}
 use Rattle.ec_protocol.specs.Server.{serving, has_claimed, is_claimed}
 use Rattle.ec_protocol.specs.declared.clerk.Clerk.{Clerk}
 use Rattle.ec_protocol.specs.declared.server.Server.{Server}
-use Rattle.ec_quiet.specs.Facts.{IsOrderly, IsIdleBut, Same, clerk_of}
+use Rattle.ec_quiet.specs.Facts.{IsOrderly, IsIdleBut, Same, session_clerk as clerk_of}
 use Rattle.ec_quiet.specs.Phases.{lowered_to}
 use Rattle.ec_machine_laws.specs.Holding.{left_at}
 use Rattle.ec_machine_laws.specs.Serving.{IsAtWork}

@@ -13,7 +13,7 @@ use Rattle.ec_protocol.specs.Server.{take}
 use Rattle.ec_protocol.specs.World.{deliver, runs}
 use Rattle.ec_protocol.specs.declared.world.Sent.{Sent}
 use Rattle.ec_protocol.specs.declared.world.World.{World}
-use Rattle.ec_quiet.specs.Facts.{clerk_of}
+use Rattle.ec_quiet.specs.Facts.{session_clerk}
 use Rattle.ec_quiet.specs.Phases.{Phase, Greets, Opens, Claims, Wants, Recalls, Flushes, Keeps, Grants, Asks, Gives, Refuses, Saves, Saved, Ends, InPhase, main, messages, is_back, is_back_message}
 use Rattle.ec_quiet.specs.Scenes.{Mail, Scene}
 use Rattle.ec_quiet.specs.Works.{Work}
@@ -59,7 +59,7 @@ module _ (j : Work) (sc : Scene) (m : ℕ × Msg) (others : Mail) (a s e b : ℕ
   by-phase (Recalls x h (r ∷ rs) bs) q = absurd (no-batch _ _ q refl)
   by-phase (Recalls x h [] []) q = absurd (none-first m others q)
   by-phase (Recalls x h [] (r ∷ bs)) q = absurd (no-batch _ _ q refl)
-  by-phase (Flushes x h r n os more) q = of-batch (clerk_of sc.server r.0) r.0 sc.server.durable.epoch n os [] q
+  by-phase (Flushes x h r n os more) q = of-batch (session_clerk sc.server r.0) r.0 sc.server.durable.epoch n os [] q
   by-phase (Keeps x h r n more) q = absurd (no-batch _ _ q refl)
   by-phase (Grants x h n) q = absurd (no-batch _ _ q refl)
   by-phase (Asks again got ask) q = absurd (no-batch _ _ q refl)

@@ -25,7 +25,7 @@ use Rattle.ec_protocol.specs.declared.clerk.Clerk.{Clerk}
 use Rattle.ec_protocol.specs.declared.clerk.Out.TheVariants as out
 use Rattle.ec_protocol.specs.declared.clerk.Recalled.{Recalled}
 use Rattle.ec_protocol.specs.declared.server.Server.{Server}
-use Rattle.ec_quiet.specs.Facts.{IsAnswered, IsIdleBut, IsIn, Lacks, SameBut, is_last, token_of}
+use Rattle.ec_quiet.specs.Facts.{WantIsAnswered, IsIdleBut, IsIn, Lacks, SameBut, is_last, token_of}
 use Rattle.ec_quiet.specs.Measure.{unsent}
 use Rattle.ec_quiet.specs.Phases.{lowered_to}
 use Rattle.ec_quiet.specs.Tries.{recall_tried, without_recalls}
@@ -52,7 +52,7 @@ pub record IsCalled (v : Server) (c : ℕ) (sl : Slot) (m : Clerk) (r : Holder) 
   pub batches : m.log.batches ≡ []
   pub window : Lacks 0 sl m.log
   pub grants : sl.grants ≡ m.got
-  pub answered : Each (IsAnswered m.cache) m.wanted
+  pub answered : Each (WantIsAnswered m.cache) m.wanted
   pub same : SameBut [] v r.0 m
   pub recorded : token v.tokens r.0 x ≡ Some (record { hold = r.1; number = r.2 })
   pub clashes : clash r.1 h ≡ true
@@ -142,7 +142,7 @@ module _ (v : Server) (c : ℕ) (sl : Slot) (m : Clerk) (r : Holder) (x : ℕ) (
     asking = i.asking;
     window = i.window;
     grants = i.grants;
-    answered = each-map (IsAnswered m.cache) (IsAnswered given.cache) (λ w a. omega (arith, a, last-same w.obj)) m.wanted i.answered;
+    answered = each-map (WantIsAnswered m.cache) (WantIsAnswered given.cache) (λ w a. omega (arith, a, last-same w.obj)) m.wanted i.answered;
     same = λ y t. (λ z. token v.tokens (i.own z) y) ∙ i.same y tt ∙ ap token_of (sym (lowering.other-held x n to m.cache hd token-held.1 token-held.3 known down y (other-same y t)));
   }
 

@@ -77,8 +77,8 @@ module _ (j : Work) (sc : Scene) (m : ℕ × Msg) (rest : Mail) (side : is_for_s
   all-go-on (Recalls x h [] (b ∷ bs)) q may = wrong (Recalls x h [] (b ∷ bs)) q (back_of sc x h b) (map (back_of sc x h) bs) refl refl
   all-go-on (Recalls x h (r ∷ rs) bs) q may = by-law (Recalls x h (r ∷ rs) bs) q (recall_of sc x h r) (map (recall_of sc x h) rs ++ map (back_of sc x h) bs) refl
       (λ i. recalling.recalls-go-on j sc x h r rs bs rest q i (may (recalling.running j sc x h r rs bs rest q i).0 (recalling.running j sc x h r rs bs rest q i).1))
-  all-go-on (Flushes x h r b ops more) q may = wrong (Flushes x h r b ops more) q (Rattle.ec_quiet.specs.Facts.clerk_of sc.server r.0, msg.Flush r.0 e b ops) [] refl refl
-  all-go-on (Keeps x h r b more) q may = by-law (Keeps x h r b more) q (Rattle.ec_quiet.specs.Facts.clerk_of sc.server r.0, msg.Kept r.0 e b) [] refl (λ i. keeps-go-on j sc x h r b more rest q i (may q.facts.1.clerk q.facts.1.there))
+  all-go-on (Flushes x h r b ops more) q may = wrong (Flushes x h r b ops more) q (Rattle.ec_quiet.specs.Facts.session_clerk sc.server r.0, msg.Flush r.0 e b ops) [] refl refl
+  all-go-on (Keeps x h r b more) q may = by-law (Keeps x h r b more) q (Rattle.ec_quiet.specs.Facts.session_clerk sc.server r.0, msg.Kept r.0 e b) [] refl (λ i. keeps-go-on j sc x h r b more rest q i (may q.facts.1.clerk q.facts.1.there))
   all-go-on (Grants x h n) q may = by-law (Grants x h n) q (j.clerk, msg.Grant j.session e x n h (Rattle.ec_volume.specs.Volume.images sc.server.durable.volume x)) [] refl (λ i. grants-go-on j sc x h n rest q i may.0 may.1)
   all-go-on (Asks again got ask) q may = wrong (Asks again got ask) q (j.clerk, msg.Room j.session e got ask) [] refl refl
   all-go-on (Gives got n first) q may = by-law (Gives got n first) q (j.clerk, msg.Ids j.session e got n first) [] refl (λ i. gives-go-on j sc got n first rest q i may.0 may.1 (may.2 q.facts.3.clerk q.facts.3.working.there))

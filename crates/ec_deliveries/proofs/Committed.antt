@@ -16,7 +16,7 @@ use Rattle.ec_durable.specs.declared.state.Durable.{Durable}
 use Rattle.ec_log.specs.declared.state.LogState.{LogState}
 use Rattle.ec_protocol.specs.Server.{Serving, serving, take, has_claimed, may_write}
 use Rattle.ec_protocol.specs.declared.server.Server.{Server}
-use Rattle.ec_quiet.specs.Facts.{IsOrderly, IsIn, IsSending, Lacks, clerk_of}
+use Rattle.ec_quiet.specs.Facts.{IsOrderly, IsIn, IsSending, Lacks, session_clerk}
 use Rattle.ec_quiet.specs.Measure.{measure}
 use Rattle.ec_quiet.specs.Phases.{Flushes, Keeps, Saves, Saved, InPhase, IsNoted, IsRecalled, IsSaving, main, is_back}
 use Rattle.ec_quiet.specs.Scenes.{Mail, Scene, delivered}
@@ -78,8 +78,8 @@ module _ (v : Server) (c s b : ℕ) (ops : Issued) (d : Durable) (sl : Slot) (th
 
 -- A holder's batch.
 
-module _ (j : Work) (sc : Scene) (x : ℕ) (h : Hold) (r : Holder) (b : ℕ) (ops : Issued) (more : Bool) (rest : Mail) (ip : InPhase j sc (Flushes x h r b ops more)) (mail : sc.mail ≡ (clerk_of sc.server r.0, msg.Flush r.0 sc.server.durable.epoch b ops) ∷ rest)
-    (d : Durable) (ok : step (Batch (clerk_of sc.server r.0) r.0 b ops) sc.server.durable ≡ Ok d) where
+module _ (j : Work) (sc : Scene) (x : ℕ) (h : Hold) (r : Holder) (b : ℕ) (ops : Issued) (more : Bool) (rest : Mail) (ip : InPhase j sc (Flushes x h r b ops more)) (mail : sc.mail ≡ (session_clerk sc.server r.0, msg.Flush r.0 sc.server.durable.epoch b ops) ∷ rest)
+    (d : Durable) (ok : step (Batch (session_clerk sc.server r.0) r.0 b ops) sc.server.durable ≡ Ok d) where
   abbrev noted : IsNoted j sc x h (r ∷ [])
   noted = ip.facts.0
 
@@ -87,7 +87,7 @@ module _ (j : Work) (sc : Scene) (x : ℕ) (h : Hold) (r : Holder) (b : ℕ) (op
   called = ip.facts.1
 
   abbrev c : ℕ
-  c = clerk_of sc.server r.0
+  c = session_clerk sc.server r.0
 
   abbrev flush : ℕ × Msg
   flush = (c, msg.Flush r.0 sc.server.durable.epoch b ops)
@@ -121,8 +121,8 @@ module _ (j : Work) (sc : Scene) (x : ℕ) (h : Hold) (r : Holder) (b : ℕ) (op
   moved = now-slot sc.server c r.0 b ops d called.slot called.inside.there ok
 
   -- the session's clerk is the same
-  same-clerk : clerk_of now r.0 ≡ c
-  same-clerk = ap (clerk_of now) (sym called.session) ∙ orderly.own c moved (slot-moves sc.server c r.0 b ops d called.slot called.inside.there ok [] r.0).slot
+  same-clerk : session_clerk now r.0 ≡ c
+  same-clerk = ap (session_clerk now) (sym called.session) ∙ orderly.own c moved (slot-moves sc.server c r.0 b ops d called.slot called.inside.there ok [] r.0).slot
 
   not-own : is_back j flush ≡ false
   not-own = no-back j c flush.1 refl
@@ -191,18 +191,18 @@ module _ (j : Work) (sc : Scene) (x : ℕ) (h : Hold) (r : Holder) (b : ℕ) (op
       (ap (actions sc.server.tokens) noted.recalls ∙ nothing-due j x h (r ∷ []) sc.server.tokens noted.conflicts noted.some)
       (ap (wants_after sc.server.tokens) noted.recalls ∙ want-stays j x h (r ∷ []) sc.server.tokens noted.conflicts noted.some ∙ sym noted.recalls)
 
-pub holders-flush : (j : Work) (sc : Scene) (x : ℕ) (h : Hold) (r : Holder) (b : ℕ) (ops : Issued) (more : Bool) (rest : Mail) → InPhase j sc (Flushes x h r b ops more) → IsTaken (clerk_of sc.server r.0) r.0 b ops sc.server
-    → sc.mail ≡ (clerk_of sc.server r.0, msg.Flush r.0 sc.server.durable.epoch b ops) ∷ rest
-    → IsNext j sc (Flushes x h r b ops more) (delivered (clerk_of sc.server r.0) (msg.Flush r.0 sc.server.durable.epoch b ops) rest sc) (Keeps x h r b more)
+pub holders-flush : (j : Work) (sc : Scene) (x : ℕ) (h : Hold) (r : Holder) (b : ℕ) (ops : Issued) (more : Bool) (rest : Mail) → InPhase j sc (Flushes x h r b ops more) → IsTaken (session_clerk sc.server r.0) r.0 b ops sc.server
+    → sc.mail ≡ (session_clerk sc.server r.0, msg.Flush r.0 sc.server.durable.epoch b ops) ∷ rest
+    → IsNext j sc (Flushes x h r b ops more) (delivered (session_clerk sc.server r.0) (msg.Flush r.0 sc.server.durable.epoch b ops) rest sc) (Keeps x h r b more)
 holders-flush j sc x h r b ops more rest ip ready mail = (
   subst (λ u. InPhase j (behind sc rest u) (Keeps x h r b more)) (sym taken) (kept-phase j sc x h r b ops more rest ip mail ready.1 ready.2),
   subst (λ u. measure j (behind sc rest u) (Keeps x h r b more) + 32 ≤ measure j sc (Flushes x h r b ops more)) (sym taken) (kept-less j sc x h r b ops more rest ip mail ready.1 ready.2),
 )
   where
     answered : Serving
-    answered = record { server = record sc.server { durable = ready.1 }; sent = (clerk_of sc.server r.0, msg.Kept r.0 ready.1.epoch b) ∷ []; rec = Some (Batch (clerk_of sc.server r.0) r.0 b ops); spent = None }
+    answered = record { server = record sc.server { durable = ready.1 }; sent = (session_clerk sc.server r.0, msg.Kept r.0 ready.1.epoch b) ∷ []; rec = Some (Batch (session_clerk sc.server r.0) r.0 b ops); spent = None }
 
-    taken : take (clerk_of sc.server r.0) (msg.Flush r.0 sc.server.durable.epoch b ops) sc.server ≡ answered
+    taken : take (session_clerk sc.server r.0) (msg.Flush r.0 sc.server.durable.epoch b ops) sc.server ≡ answered
     taken = flush-taken j sc x h r b ops more rest ip mail ready.1 ready.2 ready.0
 
 -- A batch of the line's clerk.

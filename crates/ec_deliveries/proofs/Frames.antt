@@ -4,14 +4,14 @@ use Rattle.std.specs.Prelude.{is_none}
 use Rattle.std.proofs.lemmas.Bool.{eqb-true, true≢false}
 use Rattle.ec_base.specs.declared.ids.Hold.{Hold}
 use Rattle.ec_sessions.specs.declared.slot.Slot.{Slot}
-use Rattle.ec_tokens.specs.Tokens.{Tokens, Holder, first, conflicts, is_clear}
+use Rattle.ec_tokens.specs.Tokens.{Tokens, Holder, first_holder, conflicts, is_clear}
 use Rattle.ec_recall.specs.Due.{told_of, recall_of, actions, wants_after}
 use Rattle.ec_recall.specs.declared.want.Want.{Want}
 use Rattle.ec_wire.specs.declared.msg.Msg.{Msg}
 use Rattle.ec_durable.specs.Durable.{slot}
 use Rattle.ec_protocol.specs.declared.clerk.Clerk.{Clerk}
 use Rattle.ec_protocol.specs.declared.server.Server.{Server}
-use Rattle.ec_quiet.specs.Facts.{IsIdleBut, clerk_of}
+use Rattle.ec_quiet.specs.Facts.{IsIdleBut, session_clerk}
 use Rattle.ec_quiet.specs.Phases.{backs, is_back, is_back_message}
 use Rattle.ec_quiet.specs.Scenes.{Mail}
 use Rattle.ec_quiet.specs.Works.{Work}
@@ -28,12 +28,12 @@ pub like-but : (xs : List ℕ) (v w : Server) (c s : ℕ) → IsLike v w c s →
 like-but xs v w c s l = record { slot = l.slot; epoch = l.epoch; claimed = l.claimed; number = l.number; tokens = λ x m. l.tokens x }
 
 -- a holder of another session is another clerk
-pub other-clerk : (j : Work) (v : Server) (s : ℕ) (a : IsHolder v s) (sl : Slot) → slot v.durable j.clerk ≡ Some sl → sl.session ≡ j.session → (s == j.session) ≡ false → (clerk_of v s == j.clerk) ≡ false
-other-clerk j v s a sl there own other = go (clerk_of v s == j.clerk) refl
+pub other-clerk : (j : Work) (v : Server) (s : ℕ) (a : IsHolder v s) (sl : Slot) → slot v.durable j.clerk ≡ Some sl → sl.session ≡ j.session → (s == j.session) ≡ false → (session_clerk v s == j.clerk) ≡ false
+other-clerk j v s a sl there own other = go (session_clerk v s == j.clerk) refl
   where
-    go : (b : Bool) → (clerk_of v s == j.clerk) ≡ b → b ≡ false
+    go : (b : Bool) → (session_clerk v s == j.clerk) ≡ b → b ≡ false
     go true e =
-        let both : ◌≡◌ {A = Option Slot} (Some a.slot_is) (Some sl) = sym a.there ∙ ap (slot v.durable) (eqb-true (clerk_of v s) j.clerk e) ∙ there in
+        let both : ◌≡◌ {A = Option Slot} (Some a.slot_is) (Some sl) = sym a.there ∙ ap (slot v.durable) (eqb-true (session_clerk v s) j.clerk e) ∙ there in
         let same : a.slot_is ≡ sl = cc in
         absurd (true≢false (sym (ap (λ z. z == j.session) (sym a.session ∙ ap (λ z. z.session) same ∙ own) ∙ same-self j.session) ∙ other))
     go false e = refl
@@ -77,9 +77,9 @@ abbrev pub noted-want : Work → ℕ → Hold → List Holder → Want
 noted-want j x h cs = record { session = j.session; obj = x; hold = h; told = map told_of cs }
 
 pub not-clear : (ts : Tokens) (s x : ℕ) (h : Hold) (cs : List Holder) → conflicts ts s x h ≡ cs → cs ≢ [] → is_clear ts s x h ≡ false
-not-clear ts s x h cs e some = ap (λ gs. is_none (first gs)) e ∙ go cs some
+not-clear ts s x h cs e some = ap (λ gs. is_none (first_holder gs)) e ∙ go cs some
   where
-    go : (cs : List Holder) → cs ≢ [] → is_none (first cs) ≡ false
+    go : (cs : List Holder) → cs ≢ [] → is_none (first_holder cs) ≡ false
     go [] some = absurd (some refl)
     go (c ∷ cs) some = refl
 

@@ -21,7 +21,7 @@ use Rattle.ec_tokens.specs.declared.token.Token.{Token}
 use Rattle.ec_durable.specs.Durable.{slot}
 use Rattle.ec_protocol.specs.declared.clerk.Clerk.{Clerk}
 use Rattle.ec_protocol.specs.declared.server.Server.{Server}
-use Rattle.ec_quiet.specs.Facts.{IsOrderly, clerk_of}
+use Rattle.ec_quiet.specs.Facts.{IsOrderly, session_clerk}
 use Rattle.ec_machine_laws.proofs.Rows.{later-row, own-row}
 use Rattle.ec_base.proofs.Bools.{lower}
 
@@ -134,26 +134,26 @@ conflict-is ts s x h r bs rs sound e = record {
 -- The clerk of a session that has a token.
 pub record IsHolderOf (v : Server) (s : ℕ) : Type 0 where
   pub slot_is : Slot
-  pub there : slot v.durable (clerk_of v s) ≡ Some slot_is
+  pub there : slot v.durable (session_clerk v s) ≡ Some slot_is
   pub session : slot_is.session ≡ s
   pub is_open : slot_is.is_open ≡ true
 
 pub holder-of : (v : Server) (clerks : Table Clerk) (s x : ℕ) (t : Token) → IsOrderly v clerks → token v.tokens s x ≡ Some t → IsHolderOf v s
 holder-of v clerks s x t o e =
     let h = o.holders s x t e in
-    record { slot_is = h.1; there = ap (slot v.durable) (ap (clerk_of v) (sym h.3) ∙ o.own h.0 h.1 h.2) ∙ h.2; session = h.3; is_open = h.4 }
+    record { slot_is = h.1; there = ap (slot v.durable) (ap (session_clerk v) (sym h.3) ∙ o.own h.0 h.1 h.2) ∙ h.2; session = h.3; is_open = h.4 }
 
 pub same-slot : (a b : Slot) → ◌≡◌ {A = Option Slot} (Some a) (Some b) → a ≡ b
 same-slot a b e = cc
 
 -- sessions of one clerk are the same
-pub clerks-differ : (v : Server) (s t : ℕ) → IsHolderOf v s → IsHolderOf v t → (s == t) ≡ false → (clerk_of v s == clerk_of v t) ≡ false
-clerks-differ v s t a b n = go (clerk_of v s == clerk_of v t) refl
+pub clerks-differ : (v : Server) (s t : ℕ) → IsHolderOf v s → IsHolderOf v t → (s == t) ≡ false → (session_clerk v s == session_clerk v t) ≡ false
+clerks-differ v s t a b n = go (session_clerk v s == session_clerk v t) refl
   where
-    go : (z : Bool) → (clerk_of v s == clerk_of v t) ≡ z → z ≡ false
+    go : (z : Bool) → (session_clerk v s == session_clerk v t) ≡ z → z ≡ false
     go false e = refl
     go true e =
-        let alike : a.slot_is ≡ b.slot_is = same-slot a.slot_is b.slot_is (sym a.there ∙ ap (slot v.durable) (eqb-true (clerk_of v s) (clerk_of v t) e) ∙ b.there) in
+        let alike : a.slot_is ≡ b.slot_is = same-slot a.slot_is b.slot_is (sym a.there ∙ ap (slot v.durable) (eqb-true (session_clerk v s) (session_clerk v t) e) ∙ b.there) in
         let one : s ≡ t = sym a.session ∙ ap (λ (z : Slot). z.session) alike ∙ b.session in
         let bad : true ≡ false = sym (eq-eqb s t one) ∙ n in
         absurd (grind (arith, bad))

@@ -15,13 +15,13 @@ use Rattle.ec_cache.specs.declared.state.Held.{Held}
 use Rattle.ec_protocol.specs.Clerk.{add_ids, doing, settle, take_each, taken}
 use Rattle.ec_protocol.specs.declared.clerk.Clerk.{Clerk}
 use Rattle.ec_protocol.specs.declared.clerk.Waiting.{Waiting}
-use Rattle.ec_quiet.specs.Facts.{IsAnswered}
+use Rattle.ec_quiet.specs.Facts.{WantIsAnswered}
 use Rattle.ec_quiet.specs.Measure.{asks_later, if_more, measure}
 use Rattle.ec_quiet.specs.Phases.{Gives, InPhase, IsAged, IsAsking, IsGivenBack, IsLeaving, backs, main}
 use Rattle.ec_quiet.specs.Scenes.{Mail, Scene, delivered, done_by, taken_by}
 use Rattle.ec_quiet.specs.Works.{Work}
 use Rattle.ec_quiet.specs.Goes.{Goes, GoesOn, MayGo}
-use Rattle.ec_quiet.specs.Takings.{IsReady}
+use Rattle.ec_quiet.specs.Takings.{ClerkIsReady}
 use Rattle.ec_quiet.proofs.Beside.{backs-more, main-more, own-at, own-measure}
 use Rattle.ec_quiet.proofs.Begun.{ids}
 use Rattle.ec_quiet.proofs.Going.{goes}
@@ -119,7 +119,7 @@ module _ (j : Work) (sc : Scene) (got n first : ℕ) (rest : Mail) (q : InPhase 
   filled : IsFilled j sc rest first k [] final
   filled = all-taken j sc rest first k n out ids_per_grant first k.cache starts tells
 
-  ready : IsReady j (filling_at j sc rest now) w.slot now
+  ready : ClerkIsReady j (filling_at j sc rest now) w.slot now
   ready = record {
     there = own-at j.clerk now sc.clerks;
     inside = record {
@@ -144,7 +144,7 @@ module _ (j : Work) (sc : Scene) (got n first : ℕ) (rest : Mail) (q : InPhase 
     batches = w.batches;
     window = w.window;
     grants = q.facts.5 ∙ ap (λ z. z + 1) q.facts.4;
-    answered = each-map (IsAnswered k.cache) (IsAnswered final) (λ v a. omega (arith, a, filled.rises v.obj)) k.wanted w.answered;
+    answered = each-map (WantIsAnswered k.cache) (WantIsAnswered final) (λ v a. omega (arith, a, filled.rises v.obj)) k.wanted w.answered;
   }
 
   main-rest : main j rest ≡ []

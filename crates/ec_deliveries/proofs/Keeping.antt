@@ -14,7 +14,7 @@ use Rattle.ec_log.specs.declared.state.Asked.TheVariants.{Object}
 use Rattle.ec_protocol.specs.Clerk.{Doing, doing, is_ready, settle}
 use Rattle.ec_protocol.specs.declared.clerk.Clerk.{Clerk}
 use Rattle.ec_protocol.specs.declared.server.Server.{Server}
-use Rattle.ec_quiet.specs.Facts.{IsIdleBut, clerk_of, is_last}
+use Rattle.ec_quiet.specs.Facts.{IsIdleBut, session_clerk, is_last}
 use Rattle.ec_quiet.specs.Measure.{if_more, measure, unsent, unsent_by}
 use Rattle.ec_quiet.specs.Phases.{Flushes, InPhase, IsNoted, IsRecalled, Keeps, Phase, Recalls, back_of, excepted, is_busy, main}
 use Rattle.ec_quiet.specs.Scenes.{Mail, Scene, delivered, done_by, taken_by}
@@ -31,7 +31,7 @@ use Rattle.ec_deliveries.proofs.Recalling as recalling
 use Rattle.ec_deliveries.proofs.Saving.{kept-unsent, none-first, none-left}
 use Rattle.ec_deliveries.proofs.Standing as standing
 
-module _ (j : Work) (sc : Scene) (x : ℕ) (h : Hold) (r : Holder) (b : ℕ) (more : Bool) (rest : Mail) (q : InPhase j sc (Keeps x h r b more)) (head : sc.mail ≡ (clerk_of sc.server r.0, Kept r.0 sc.server.durable.epoch b) ∷ rest) where
+module _ (j : Work) (sc : Scene) (x : ℕ) (h : Hold) (r : Holder) (b : ℕ) (more : Bool) (rest : Mail) (q : InPhase j sc (Keeps x h r b more)) (head : sc.mail ≡ (session_clerk sc.server r.0, Kept r.0 sc.server.durable.epoch b) ∷ rest) where
   abbrev v : Server
   v = sc.server
 
@@ -39,7 +39,7 @@ module _ (j : Work) (sc : Scene) (x : ℕ) (h : Hold) (r : Holder) (b : ℕ) (mo
   e = v.durable.epoch
 
   abbrev cl : ℕ
-  cl = clerk_of v r.0
+  cl = session_clerk v r.0
 
   abbrev noted : IsNoted j sc x h (r ∷ [])
   noted = q.facts.0

@@ -9,7 +9,7 @@ use Rattle.ec_wire.specs.declared.msg.Msg.TheVariants as msg
 use Rattle.ec_log.specs.Log as log
 use Rattle.ec_protocol.specs.Clerk.{Doing, doing, is_session, settle, with_log}
 use Rattle.ec_protocol.specs.declared.clerk.Clerk.{Clerk}
-use Rattle.ec_quiet.specs.Facts.{clerk_of}
+use Rattle.ec_quiet.specs.Facts.{session_clerk}
 use Rattle.ec_quiet.specs.Phases.{Keeps, InPhase, IsNoted, IsRecalled}
 use Rattle.ec_quiet.specs.Scenes.{Mail, Scene, delivered}
 use Rattle.ec_quiet.specs.Works.{Work}
@@ -27,7 +27,7 @@ module _ (v : Images) (j : Work) (sc : Scene) (fine : IsBehind v j sc) where
   -- Its batch is durable.
   module _ (x : ℕ) (h : Hold) (r : Holder) (b : ℕ) (more : Bool) (ip : InPhase j sc (Keeps x h r b more)) where
     abbrev c : ℕ
-    c = clerk_of sc.server r.0
+    c = session_clerk sc.server r.0
 
     abbrev noted : IsNoted j sc x h (r ∷ [])
     noted = ip.facts.0

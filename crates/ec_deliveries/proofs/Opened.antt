@@ -15,7 +15,7 @@ use Rattle.ec_protocol.specs.declared.clerk.Clerk.{Clerk}
 use Rattle.ec_protocol.specs.declared.clerk.Waiting.{Waiting}
 use Rattle.ec_quiet.specs.Phases.{Opens, InPhase, IsStarting, Lacking}
 use Rattle.ec_quiet.specs.Scenes.{Mail, Scene, delivered}
-use Rattle.ec_quiet.specs.Works.{HasTask, IsDone, Calls, Work, asked_in}
+use Rattle.ec_quiet.specs.Works.{HasTask, NothingWaits, Calls, Work, asked_in}
 use Rattle.ec_deliveries.specs.PhasesBehind.{BatchesAreAsked, IsBehind}
 use Rattle.ec_deliveries.proofs.Picked.{none-fine}
 use Rattle.ec_deliveries.proofs.Stepped.{call-steps, nothing-steps}
@@ -53,12 +53,12 @@ module _ (v : Images) (j : Work) (sc : Scene) (fine : IsBehind v j sc) where
     opened : (z : Bool) → BatchesAreAsked v j j.clerk (settle (elim z as (λ z. Doing) [ true ↦ send (msg.Claim j.session e []) (with_clerk (λ k. record k { session = Some j.session; epoch = e }) (doing k)) | false ↦ doing k ])).clerk.log
     opened true = go s.task
       where
-        go : IsDone k ⊎ Lacking j k → BatchesAreAsked v j j.clerk (settle (send (msg.Claim j.session e []) (with_clerk (λ k. record k { session = Some j.session; epoch = e }) (doing k)))).clerk.log
+        go : NothingWaits k ⊎ Lacking j k → BatchesAreAsked v j j.clerk (settle (send (msg.Claim j.session e []) (with_clerk (λ k. record k { session = Some j.session; epoch = e }) (doing k)))).clerk.log
         go (inl done) = nothing-steps v j j.clerk (send (msg.Claim j.session e []) (with_clerk (λ k. record k { session = Some j.session; epoch = e }) (doing k))) s.new.recalls done.1 done.0 (none-fine v j j.clerk k.log none)
         go (inr lack) = lacks (send (msg.Claim j.session e []) (with_clerk (λ k. record k { session = Some j.session; epoch = e }) (doing k))) s.new.recalls refl refl refl (λ cl. refl) lack
     opened false = go s.task
       where
-        go : IsDone k ⊎ Lacking j k → BatchesAreAsked v j j.clerk (settle (doing k)).clerk.log
+        go : NothingWaits k ⊎ Lacking j k → BatchesAreAsked v j j.clerk (settle (doing k)).clerk.log
         go (inl done) = nothing-steps v j j.clerk (doing k) s.new.recalls done.1 done.0 (none-fine v j j.clerk k.log none)
         go (inr lack) = lacks (doing k) s.new.recalls refl refl refl (λ cl. refl) lack
 

@@ -26,7 +26,7 @@ use Rattle.ec_durable.specs.declared.state.Durable.{Durable}
 use Rattle.ec_protocol.specs.Server.{add_claimed, is_claimed, has_claimed, clerk_from, with_ids}
 use Rattle.ec_protocol.specs.declared.clerk.Clerk.{Clerk}
 use Rattle.ec_protocol.specs.declared.server.Server.{Server}
-use Rattle.ec_quiet.specs.Facts.{IsOrderly, clerk_of}
+use Rattle.ec_quiet.specs.Facts.{IsOrderly, session_clerk}
 use Rattle.ec_machine_laws.specs.Holding.{left_at, AreOwn}
 use Rattle.ec_machine_laws.specs.Records.{IsRestOf}
 use Rattle.ec_machine_laws.specs.Serving.{lowering, giving_ids}
@@ -82,8 +82,8 @@ back-orderly v clerks ss x n to o fits =
 abbrev pub AreApart : Slots → Type 0
 AreApart ss = (i j : ℕ) (sl sm : Slot) → slot_at ss i ≡ Some sl → slot_at ss j ≡ Some sm → sl.session ≡ sm.session → i ≡ j
 
-apart-from : (v : Server) → ((c : ℕ) (sl : Slot) → slot v.durable c ≡ Some sl → clerk_of v sl.session ≡ c) → AreApart v.durable.sessions
-apart-from v own i j sl sm a b e = sym (own i sl a) ∙ ap (clerk_of v) e ∙ own j sm b
+apart-from : (v : Server) → ((c : ℕ) (sl : Slot) → slot v.durable c ≡ Some sl → session_clerk v sl.session ≡ c) → AreApart v.durable.sessions
+apart-from v own i j sl sm a b e = sym (own i sl a) ∙ ap (session_clerk v) e ∙ own j sm b
 
 clerk-found : (ss : Slots) (k j : ℕ) (sl : Slot) → AreApart ss → slot_at ss j ≡ Some sl → clerk_from k sl.session ss ≡ k + j
 clerk-found [] k j sl a e = absurd (none e)
@@ -107,7 +107,7 @@ clerk-found (Some sm ∷ ss) k (suc j) sl a e = go (sm.session == sl.session) re
     go true q r = absurd (apart (a 0 (suc j) sm sl refl e (eqb-true sm.session sl.session q)))
     go false q r = r ∙ omega arith
 
-pub own-from : (v : Server) → AreApart v.durable.sessions → (c : ℕ) (sl : Slot) → slot v.durable c ≡ Some sl → clerk_of v sl.session ≡ c
+pub own-from : (v : Server) → AreApart v.durable.sessions → (c : ℕ) (sl : Slot) → slot v.durable c ≡ Some sl → session_clerk v sl.session ≡ c
 own-from v a c sl e = clerk-found v.durable.sessions 0 c sl a e ∙ omega arith
 
 -- each slot passes

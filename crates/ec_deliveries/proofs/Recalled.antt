@@ -9,7 +9,7 @@ use Rattle.ec_recall.specs.Due.{recall_to}
 use Rattle.ec_cache.specs.Cache as cache
 use Rattle.ec_protocol.specs.Clerk.{Doing, doing, is_session, keep_recall, mark_recall, settle, with_cache}
 use Rattle.ec_protocol.specs.declared.clerk.Clerk.{Clerk}
-use Rattle.ec_quiet.specs.Facts.{IsIdleBut, clerk_of}
+use Rattle.ec_quiet.specs.Facts.{IsIdleBut, session_clerk}
 use Rattle.ec_quiet.specs.Phases.{Recalls, InPhase, IsNoted, recall_of}
 use Rattle.ec_quiet.specs.Scenes.{Mail, Scene, delivered}
 use Rattle.ec_quiet.specs.Works.{Work}
@@ -25,9 +25,9 @@ module _ (v : Images) (j : Work) (sc : Scene) (fine : IsBehind v j sc) where
   abbrev e : ℕ
   e = sc.server.durable.epoch
 
-  module _ (x : ℕ) (h : Hold) (r : Holder) (rs bs : List Holder) (ip : InPhase j sc (Recalls x h (r ∷ rs) bs)) (k : Clerk) (there : at (clerk_of sc.server r.0) sc.clerks ≡ Some k) where
+  module _ (x : ℕ) (h : Hold) (r : Holder) (rs bs : List Holder) (ip : InPhase j sc (Recalls x h (r ∷ rs) bs)) (k : Clerk) (there : at (session_clerk sc.server r.0) sc.clerks ≡ Some k) where
     abbrev c : ℕ
-    c = clerk_of sc.server r.0
+    c = session_clerk sc.server r.0
 
     abbrev noted : IsNoted j sc x h (bs ++ r ∷ rs)
     noted = ip.facts.0

@@ -23,7 +23,7 @@ use Rattle.ec_log.specs.Log as log
 use Rattle.ec_protocol.specs.Clerk.{Doing, doing, is_ready, mark_recall, settle, taken}
 use Rattle.ec_protocol.specs.declared.clerk.Clerk.{Clerk}
 use Rattle.ec_protocol.specs.declared.server.Server.{Server}
-use Rattle.ec_quiet.specs.Facts.{IsIdleBut, IsIn, clerk_of, token_of}
+use Rattle.ec_quiet.specs.Facts.{IsIdleBut, IsIn, session_clerk as clerk_of, token_of}
 use Rattle.ec_quiet.specs.Measure.{measure, unsent, unsent_by}
 use Rattle.ec_quiet.specs.Phases.{Flushes, HasGivenBack, InPhase, IsNoted, Phase, Recalls, back_of, excepted, is_busy, main, recall_of}
 use Rattle.ec_quiet.specs.Scenes.{Mail, Scene, delivered, done_by, taken_by}

@@ -20,7 +20,7 @@ use Rattle.ec_quiet.specs.Works.{Work}
 use Rattle.ec_quiet.specs.Evictions.{Evicts, Uses}
 use Rattle.ec_quiet.specs.Frames.{own_part}
 use Rattle.ec_quiet.specs.Goes.{Goes, GoesOn, MayGo}
-use Rattle.ec_quiet.specs.Takings.{IsReady, with_clerk_at}
+use Rattle.ec_quiet.specs.Takings.{ClerkIsReady, with_clerk_at}
 use Rattle.ec_quiet.proofs.Beside.{backs-more, main-more, own-at, own-measure}
 use Rattle.ec_quiet.proofs.Going as going
 use Rattle.ec_quiet.proofs.Going.{goes}
@@ -62,7 +62,7 @@ module _ (j : Work) (sc : Scene) (again : Bool) (ask live reserved : ℕ) (rest 
   given : (m : ℕ × Msg) → IsGivenBack j e k m.1 → IsGivenBack j e now m.1
   given m g = record { obj = g.obj; number = g.number; is = g.is; known = g.known; held = g.held }
 
-  ready : IsReady j at-now s.slot now
+  ready : ClerkIsReady j at-now s.slot now
   ready = record {
     there = own-at j.clerk now sc.clerks;
     inside = record {

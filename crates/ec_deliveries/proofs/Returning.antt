@@ -8,7 +8,7 @@ use Rattle.ec_base.specs.Holds.{clash}
 use Rattle.ec_base.specs.declared.ids.Hold.{Hold}
 use Rattle.ec_volume.specs.Volume.{images}
 use Rattle.ec_sessions.specs.declared.slot.Slot.{Slot}
-use Rattle.ec_tokens.specs.Tokens.{Holder, token, mode, first, conflicts, fits_back}
+use Rattle.ec_tokens.specs.Tokens.{Holder, token, mode, first_holder, conflicts, fits_back}
 use Rattle.ec_recall.specs.Due.{recall_to}
 use Rattle.ec_wire.specs.declared.msg.Msg.{Msg}
 use Rattle.ec_wire.specs.declared.msg.Msg.TheVariants as msg
@@ -16,7 +16,7 @@ use Rattle.ec_durable.specs.Durable.{slot}
 use Rattle.ec_protocol.specs.Server.{Serving, serving, take, is_last_number}
 use Rattle.ec_protocol.specs.declared.clerk.Clerk.{Clerk}
 use Rattle.ec_protocol.specs.declared.server.Server.{Server}
-use Rattle.ec_quiet.specs.Facts.{IsOrderly, IsIdleBut, Same, token_of, clerk_of}
+use Rattle.ec_quiet.specs.Facts.{IsOrderly, IsIdleBut, Same, token_of, session_clerk as clerk_of}
 use Rattle.ec_quiet.specs.Measure.{measure}
 use Rattle.ec_quiet.specs.Phases.{Wants, Recalls, Grants, InPhase, IsNoted, HasGivenBack, main, is_back, back_of, want_of, excepted}
 use Rattle.ec_quiet.specs.Scenes.{Mail, Scene, delivered}
@@ -221,7 +221,7 @@ module _ (j : Work) (sc : Scene) (x : ℕ) (h : Hold) (b : Holder) (rest : Mail)
   grants = granting j.session x h (with_wants [] (serving lower-of))
 
   grants-phase : InPhase j (behind sc rest grants) (Grants x h (sc.server.number + 1))
-  grants-phase = granted-phase j as-wanted x h last rest wanted-phase refl (ap (λ gs. is_none (first gs)) all-back)
+  grants-phase = granted-phase j as-wanted x h last rest wanted-phase refl (ap (λ gs. is_none (first_holder gs)) all-back)
 
   grants-less : measure j (behind sc rest grants) (Grants x h (sc.server.number + 1)) + 32 ≤ measure j sc (Recalls x h [] (b ∷ []))
   grants-less =
@@ -238,7 +238,7 @@ module _ (j : Work) (sc : Scene) (x : ℕ) (h : Hold) (b : Holder) (rest : Mail)
   grants-taken : is_last_number (serving sc.server) ≡ false → take (clerk_of sc.server b.0) (back_of sc x h b).1 sc.server ≡ grants
   grants-taken counts =
       back-granted (clerk_of sc.server b.0) b.0 sc.server.durable.epoch x b.2 (recall_to h) (holder j sc x h b [] rest ip mail).slot_is sc.server (at-work j sc x h b [] rest ip mail) (fits j sc x h b [] rest ip mail)
-      (noted-want j x h (b ∷ [])) ip.facts.0.recalls ip.orderly.claimed (ap (λ gs. is_none (first gs)) all-back)
+      (noted-want j x h (b ∷ [])) ip.facts.0.recalls ip.orderly.claimed (ap (λ gs. is_none (first_holder gs)) all-back)
       ∙ grant-sent (with_wants [] (serving lower-of)) j.session x h counts
 
 pub backs-come-back : (j : Work) (sc : Scene) (x : ℕ) (h : Hold) (b : Holder) (bs : List Holder) (rest : Mail) → InPhase j sc (Recalls x h [] (b ∷ bs)) → is_last_number (serving sc.server) ≡ false → sc.mail ≡ back_of sc x h b ∷ rest

@@ -41,7 +41,7 @@ use Rattle.ec_quiet.specs.Works.{Calls, Work, asked, asked_in, is_saving, saves}
 use Rattle.ec_quiet.specs.Evictions.{Evicts, less_tokens}
 use Rattle.ec_quiet.specs.Frames.{own_part}
 use Rattle.ec_quiet.specs.Goes.{Goes, GoesOn, MayGo}
-use Rattle.ec_quiet.specs.Takings.{IsReady, with_clerk_at}
+use Rattle.ec_quiet.specs.Takings.{ClerkIsReady as IsReady, with_clerk_at}
 use Rattle.ec_quiet.specs.Tries.{IsAnswer, IsBatch, IsRoom, IsWant, issued, left_by, updated}
 use Rattle.ec_quiet.proofs.Batches.{all-unsent}
 use Rattle.ec_quiet.proofs.Beside.{backs-more, main-more, own-at, own-measure}

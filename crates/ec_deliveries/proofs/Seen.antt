@@ -22,7 +22,7 @@ use Rattle.ec_resolve.specs.Agreement.{Shows}
 use Rattle.ec_resolve.specs.declared.verdict.Verdict.{Verdict}
 use Rattle.ec_resolve.specs.declared.verdict.Verdict.TheVariants.{Need, NeedIds, Lost, Done}
 use Rattle.ec_resolve.proofs.Settled.{done-comes}
-use Rattle.ec_protocol.specs.Clerk.{awaited, first_id, last_of, on_object, verdict}
+use Rattle.ec_protocol.specs.Clerk.{awaited, first_id, last_number, on_object, verdict}
 use Rattle.ec_protocol.specs.declared.clerk.Clerk.{Clerk}
 use Rattle.ec_quiet.specs.Works.{Task, Calls, Pushes, Work, asked, asked_in}
 use Rattle.ec_deliveries.specs.Behind.{saved_by}
@@ -36,40 +36,40 @@ none-some {A} x e = absurd (apart e)
 
 -- The last object of a walk is the one that it comes to.
 
-last-more : (o : ℕ) (os : List ℕ) (x : ℕ) → last_of os ≡ Some x → last_of (o ∷ os) ≡ Some x
+last-more : (o : ℕ) (os : List ℕ) (x : ℕ) → last_number os ≡ Some x → last_number (o ∷ os) ≡ Some x
 last-more o [] x e = none-some x e
 last-more o (p ∷ os) x e = e
 
-ends-at : (v : Images) (i o : ℕ) (ns : Path) (x : ℕ) → (walk_from v i o ns).to ≡ At x → last_of (walk_from v i o ns).read ≡ Some x
+ends-at : (v : Images) (i o : ℕ) (ns : Path) (x : ℕ) → (walk_from v i o ns).to ≡ At x → last_number (walk_from v i o ns).read ≡ Some x
 ends-at v i o [] x e = go (is_gone (v o)) e
   where
     apart : Not (no.NotFound i) ≡ At x → ⊥
     apart e = cc
 
-    go : (b : Bool) → Rattle.std.specs.Prelude.cond b (Not (no.NotFound i)) (At o) ≡ At x → last_of (o ∷ []) ≡ Some x
+    go : (b : Bool) → Rattle.std.specs.Prelude.cond b (Not (no.NotFound i)) (At o) ≡ At x → last_number (o ∷ []) ≡ Some x
     go true e = absurd (apart e)
     go false e = ap Some cc
 ends-at v i o (n ∷ ns) x e = next (λ q f. ends-at v (i + 1) q ns x f) (v o) e
   where
-    stops : (r : Refusal) → (stop (Not r)).to ≡ At x → last_of (o ∷ []) ≡ Some x
+    stops : (r : Refusal) → (stop (Not r)).to ≡ At x → last_number (o ∷ []) ≡ Some x
     stops r e = absurd (apart e)
       where
         apart : Not r ≡ At x → ⊥
         apart e = cc
 
-    found : ((q : ℕ) → (walk_from v (i + 1) q ns).to ≡ At x → last_of (walk_from v (i + 1) q ns).read ≡ Some x)
+    found : ((q : ℕ) → (walk_from v (i + 1) q ns).to ≡ At x → last_number (walk_from v (i + 1) q ns).read ≡ Some x)
         → (p : Option ℕ) → (elim p as (λ z. Walk) [ None ↦ stop (Not (no.NotFound (i + 1))) | Some q ↦ walk_from v (i + 1) q ns ]).to ≡ At x
-        → last_of (o ∷ (elim p as (λ z. Walk) [ None ↦ stop (Not (no.NotFound (i + 1))) | Some q ↦ walk_from v (i + 1) q ns ]).read) ≡ Some x
+        → last_number (o ∷ (elim p as (λ z. Walk) [ None ↦ stop (Not (no.NotFound (i + 1))) | Some q ↦ walk_from v (i + 1) q ns ]).read) ≡ Some x
     found more None e = stops (no.NotFound (i + 1)) e
     found more (Some q) e = last-more o (walk_from v (i + 1) q ns).read x (more q e)
 
-    next : ((q : ℕ) → (walk_from v (i + 1) q ns).to ≡ At x → last_of (walk_from v (i + 1) q ns).read ≡ Some x) → (y : Image)
+    next : ((q : ℕ) → (walk_from v (i + 1) q ns).to ≡ At x → last_number (walk_from v (i + 1) q ns).read ≡ Some x) → (y : Image)
         → (elim y as (λ z. Walk) [
           | image.Gone ↦ stop (Not (no.NotFound i))
           | image.File m s w bs ↦ stop (Not (no.NotDir i))
           | image.Dir m s w es ↦ elim (entry es n) as (λ z. Walk) [ None ↦ stop (Not (no.NotFound (i + 1))) | Some p ↦ walk_from v (i + 1) p ns ]
         ]).to ≡ At x
-        → last_of (o ∷ (elim y as (λ z. Walk) [
+        → last_number (o ∷ (elim y as (λ z. Walk) [
           | image.Gone ↦ stop (Not (no.NotFound i))
           | image.File m s w bs ↦ stop (Not (no.NotDir i))
           | image.Dir m s w es ↦ elim (entry es n) as (λ z. Walk) [ None ↦ stop (Not (no.NotFound (i + 1))) | Some p ↦ walk_from v (i + 1) p ns ]

@@ -3,7 +3,7 @@ use Rattle.std.proofs.Common.{◌≡◌, refl, sym, ap, ◌∙◌, subst, arith,
 use Rattle.ec_volume.specs.Volume.{Images, images}
 use Rattle.ec_wire.specs.declared.msg.Msg.{Msg}
 use Rattle.ec_wire.specs.declared.msg.Msg.TheVariants as msg
-use Rattle.ec_quiet.specs.Facts.{clerk_of}
+use Rattle.ec_quiet.specs.Facts.{session_clerk}
 use Rattle.ec_quiet.specs.Phases.{Phase, Greets, Opens, Claims, Wants, Recalls, Flushes, Keeps, Grants, Asks, Gives, Refuses, Saves, Saved, Ends, InPhase, back_of, first_want, is_back_message, main, messages, recall_of}
 use Rattle.ec_quiet.specs.Scenes.{Mail, Scene, delivered, is_for_server}
 use Rattle.ec_quiet.specs.Works.{Work}
@@ -70,8 +70,8 @@ module _ (v : Images) (j : Work) (sc : Scene) (m : ℕ × Msg) (rest : Mail) (he
     taken (Recalls x h [] (b ∷ bs)) q may see = wrong (Recalls x h [] (b ∷ bs)) q (back_of sc x h b) (map (back_of sc x h) bs) refl refl
     taken (Recalls x h (r ∷ rs) bs) q may see = by-law (Recalls x h (r ∷ rs) bs) q (recall_of sc x h r) (map (recall_of sc x h) rs ++ map (back_of sc x h) bs) refl
         (λ i. let c = recalling.running j sc x h r rs bs rest q i in recalls v j sc fine x h r rs bs q c.0 c.1 rest)
-    taken (Flushes x h r b ops more) q may see = wrong (Flushes x h r b ops more) q (clerk_of sc.server r.0, msg.Flush r.0 e b ops) [] refl refl
-    taken (Keeps x h r b more) q may see = by-law (Keeps x h r b more) q (clerk_of sc.server r.0, msg.Kept r.0 e b) [] refl (λ i. keeps v j sc fine x h r b more q rest)
+    taken (Flushes x h r b ops more) q may see = wrong (Flushes x h r b ops more) q (session_clerk sc.server r.0, msg.Flush r.0 e b ops) [] refl refl
+    taken (Keeps x h r b more) q may see = by-law (Keeps x h r b more) q (session_clerk sc.server r.0, msg.Kept r.0 e b) [] refl (λ i. keeps v j sc fine x h r b more q rest)
     taken (Grants x h n) q may see = by-law (Grants x h n) q (j.clerk, msg.Grant j.session e x n h (images sc.server.durable.volume x)) [] refl
         (λ i. grants v j sc fine x h n q (may.1 q.facts.3.clerk q.facts.3.working.there) (see q.facts.3.clerk q.facts.3.working.there) rest)
     taken (Asks again got ask) q may see = wrong (Asks again got ask) q (j.clerk, msg.Room j.session e got ask) [] refl refl

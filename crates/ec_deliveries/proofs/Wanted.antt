@@ -12,7 +12,7 @@ use Rattle.ec_volume.specs.Volume.{images}
 use Rattle.ec_history.specs.History.{Each}
 use Rattle.ec_sessions.specs.declared.slot.Slot.{Slot}
 use Rattle.ec_tokens.specs.Laws.{token-granted}
-use Rattle.ec_tokens.specs.Tokens.{Holder, token, first, conflicts, is_clear, granted}
+use Rattle.ec_tokens.specs.Tokens.{Holder, token, first_holder, conflicts, is_clear, granted}
 use Rattle.ec_tokens.specs.declared.token.Token.{Token}
 use Rattle.ec_wire.specs.declared.msg.Msg.{Msg}
 use Rattle.ec_wire.specs.declared.msg.Msg.TheVariants as msg
@@ -21,7 +21,7 @@ use Rattle.ec_cache.specs.Cache.{last, mode, held_mode}
 use Rattle.ec_cache.specs.declared.state.Held.{Held}
 use Rattle.ec_protocol.specs.Server.{serving, take, is_last_number, has_claimed}
 use Rattle.ec_protocol.specs.declared.server.Server.{Server}
-use Rattle.ec_quiet.specs.Facts.{token_of, clerk_of}
+use Rattle.ec_quiet.specs.Facts.{token_of, session_clerk}
 use Rattle.ec_quiet.specs.Measure.{fresh_rank, measure}
 use Rattle.ec_quiet.specs.Phases.{Phase, Wants, Grants, Recalls, InPhase, IsWanting, IsLeaving, IsGivenBack, backs, main, is_back}
 use Rattle.ec_quiet.specs.Scenes.{Mail, Scene, delivered}
@@ -137,7 +137,7 @@ other-session j sc p ip a there own c sl other at = go (sl.session == j.session)
   where
     go : (b : Bool) → (sl.session == j.session) ≡ b → b ≡ false
     go true e =
-        let same : c ≡ j.clerk = sym (ip.orderly.own c sl at) ∙ ap (clerk_of sc.server) (eqb-true sl.session j.session e ∙ sym own) ∙ ip.orderly.own j.clerk a there in
+        let same : c ≡ j.clerk = sym (ip.orderly.own c sl at) ∙ ap (session_clerk sc.server) (eqb-true sl.session j.session e ∙ sym own) ∙ ip.orderly.own j.clerk a there in
         absurd (true≢false (sym (ap (λ z. z == j.clerk) same ∙ same-self j.clerk) ∙ other))
     go false e = refl
 
@@ -176,13 +176,13 @@ module _ (j : Work) (sc : Scene) (x : ℕ) (h : Hold) (n : ℕ) (rest : Mail) (i
   now = record sc.server { number = sc.server.number + 1; tokens = granted j.session x h (sc.server.number + 1) sc.server.tokens }
 
   abbrev grant-of : ℕ × Msg
-  grant-of = (clerk_of sc.server j.session, msg.Grant j.session sc.server.durable.epoch x (sc.server.number + 1) h (images sc.server.durable.volume x))
+  grant-of = (session_clerk sc.server j.session, msg.Grant j.session sc.server.durable.epoch x (sc.server.number + 1) h (images sc.server.durable.volume x))
 
   abbrev granted-scene : Scene
   granted-scene = record sc { server = now; mail = rest ++ grant-of ∷ [] }
 
-  own-clerk : clerk_of sc.server j.session ≡ j.clerk
-  own-clerk = ap (clerk_of sc.server) (sym wanting.working.session) ∙ ip.orderly.own j.clerk wanting.slot wanting.working.inside.there
+  own-clerk : session_clerk sc.server j.session ≡ j.clerk
+  own-clerk = ap (session_clerk sc.server) (sym wanting.working.session) ∙ ip.orderly.own j.clerk wanting.slot wanting.working.inside.there
 
   like-own : IsLikeBut (x ∷ []) sc.server now j.clerk j.session
   like-own = record {
@@ -258,7 +258,7 @@ module _ (j : Work) (sc : Scene) (x : ℕ) (h : Hold) (n : ℕ) (rest : Mail) (i
   like-noted = record { slot = refl; epoch = refl; claimed = λ e. e; number = omega arith; tokens = λ y m. refl }
 
   some-conflict : is_clear sc.server.tokens j.session x h ≡ false → against ≢ []
-  some-conflict clear e = absurd (true≢false (sym (ap (λ gs. is_none (first gs)) e) ∙ clear))
+  some-conflict clear e = absurd (true≢false (sym (ap (λ gs. is_none (first_holder gs)) e) ∙ clear))
 
   noted-phase : is_clear sc.server.tokens j.session x h ≡ false → InPhase j noted-scene (Recalls x h against [])
   noted-phase clear = record {

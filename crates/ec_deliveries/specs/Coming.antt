@@ -21,7 +21,7 @@ use Rattle.ec_protocol.specs.World.{deliver, due, runs}
 use Rattle.ec_protocol.specs.declared.server.Server.{Server}
 use Rattle.ec_protocol.specs.declared.world.Sent.{Sent}
 use Rattle.ec_protocol.specs.declared.world.World.{World}
-use Rattle.ec_quiet.specs.Facts.{clerk_of}
+use Rattle.ec_quiet.specs.Facts.{session_clerk}
 use Rattle.ec_quiet.specs.Measure.{measure}
 use Rattle.ec_quiet.specs.Phases.{Phase, Greets, Opens, Recalls, Flushes, Keeps, Asks, Saves, Saved, InPhase, is_back, back_of}
 use Rattle.ec_quiet.specs.Scenes.{IsScene, Mail, Scene, delivered, is_for_server}
@@ -68,13 +68,13 @@ DeliveriesHaveNext = (j : Work) (w : World) (sc : Scene) (p : Phase) (t : ℕ ×
 -- A holder's token that was recalled comes back: the others are still waited for, or the want is granted.
 abbrev pub BacksComeBack : Type 0
 BacksComeBack = (j : Work) (sc : Scene) (x : ℕ) (h : Hold) (b : Holder) (bs : List Holder) (rest : Mail) → InPhase j sc (Recalls x h [] (b ∷ bs)) → is_last_number (serving sc.server) ≡ false → sc.mail ≡ back_of sc x h b ∷ rest
-    → GoesOn j sc (Recalls x h [] (b ∷ bs)) (delivered (clerk_of sc.server b.0) (back_of sc x h b).1 rest sc)
+    → GoesOn j sc (Recalls x h [] (b ∷ bs)) (delivered (session_clerk sc.server b.0) (back_of sc x h b).1 rest sc)
 
 -- A holder's batch, and one of the line's clerk, is committed and answered.
 abbrev pub HoldersFlush : Type 0
-HoldersFlush = (j : Work) (sc : Scene) (x : ℕ) (h : Hold) (r : Holder) (b : ℕ) (ops : Issued) (more : Bool) (rest : Mail) → InPhase j sc (Flushes x h r b ops more) → IsTaken (clerk_of sc.server r.0) r.0 b ops sc.server
-    → sc.mail ≡ (clerk_of sc.server r.0, Flush r.0 sc.server.durable.epoch b ops) ∷ rest
-    → IsNext j sc (Flushes x h r b ops more) (delivered (clerk_of sc.server r.0) (Flush r.0 sc.server.durable.epoch b ops) rest sc) (Keeps x h r b more)
+HoldersFlush = (j : Work) (sc : Scene) (x : ℕ) (h : Hold) (r : Holder) (b : ℕ) (ops : Issued) (more : Bool) (rest : Mail) → InPhase j sc (Flushes x h r b ops more) → IsTaken (session_clerk sc.server r.0) r.0 b ops sc.server
+    → sc.mail ≡ (session_clerk sc.server r.0, Flush r.0 sc.server.durable.epoch b ops) ∷ rest
+    → IsNext j sc (Flushes x h r b ops more) (delivered (session_clerk sc.server r.0) (Flush r.0 sc.server.durable.epoch b ops) rest sc) (Keeps x h r b more)
 
 abbrev pub ClerksSave : Type 0
 ClerksSave = (j : Work) (sc : Scene) (b : ℕ) (ops : Issued) (more : Bool) (rest : Mail) → InPhase j sc (Saves b ops more) → IsTaken j.clerk j.session b ops sc.server
@@ -103,7 +103,7 @@ DeliveriesGoOn = (j : Work) (sc : Scene) (p : Phase) (m : ℕ × Msg) (rest : Ma
 
 -- The batch that a phase is about: a holder's, or one of the line's clerk.
 abbrev pub IsBatchOf : Work → Scene → Phase → ℕ → ℕ → ℕ → Issued → Type 0
-IsBatchOf j sc (Flushes x h r b ops more) a s n others = (a ≡ clerk_of sc.server r.0) × (s ≡ r.0) × (n ≡ b) × (others ≡ ops)
+IsBatchOf j sc (Flushes x h r b ops more) a s n others = (a ≡ session_clerk sc.server r.0) × (s ≡ r.0) × (n ≡ b) × (others ≡ ops)
 IsBatchOf j sc (Saves b ops more) a s n others = (a ≡ j.clerk) × (s ≡ j.session) × (n ≡ b) × (others ≡ ops)
 IsBatchOf j sc _ a s n others = ⊥
 

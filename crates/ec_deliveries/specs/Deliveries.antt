@@ -9,7 +9,7 @@ use Rattle.ec_wire.specs.declared.msg.Msg.TheVariants as msg
 use Rattle.ec_log.specs.Log as log
 use Rattle.ec_protocol.specs.Clerk.{add_ids}
 use Rattle.ec_protocol.specs.declared.clerk.Clerk.{Clerk}
-use Rattle.ec_quiet.specs.Facts.{clerk_of}
+use Rattle.ec_quiet.specs.Facts.{session_clerk}
 use Rattle.ec_quiet.specs.Phases.{Phase, Greets, Opens, Claims, Wants, Recalls, Flushes, Keeps, Grants, Asks, Gives, Refuses, Saves, Saved, Ends, InPhase, recall_of}
 use Rattle.ec_quiet.specs.Scenes.{Mail, Scene, delivered, is_for_server}
 use Rattle.ec_quiet.specs.Works.{Task, Calls, Pushes, Work}
@@ -45,13 +45,13 @@ SavedGoesOn = (j : Work) (sc : Scene) (b : ℕ) (more : Bool) (rest : Mail) → 
 -- A recall comes to a holder whose batches can be counted: it gives its token back, or makes a batch durable first; so it does behind a batch that is.
 abbrev pub RecallsGoOn : Type 0
 RecallsGoOn = (j : Work) (sc : Scene) (x : ℕ) (h : Hold) (r : Holder) (rs bs : List Holder) (rest : Mail) → InPhase j sc (Recalls x h (r ∷ rs) bs) → sc.mail ≡ recall_of sc x h r ∷ rest
-    → ((k : Clerk) → at (clerk_of sc.server r.0) sc.clerks ≡ Some k → log.batches_are_spent k.log ≡ false)
-    → GoesOn j sc (Recalls x h (r ∷ rs) bs) (delivered (clerk_of sc.server r.0) (recall_of sc x h r).1 rest sc)
+    → ((k : Clerk) → at (session_clerk sc.server r.0) sc.clerks ≡ Some k → log.batches_are_spent k.log ≡ false)
+    → GoesOn j sc (Recalls x h (r ∷ rs) bs) (delivered (session_clerk sc.server r.0) (recall_of sc x h r).1 rest sc)
 
 abbrev pub KeepsGoOn : Type 0
 KeepsGoOn = (j : Work) (sc : Scene) (x : ℕ) (h : Hold) (r : Holder) (b : ℕ) (more : Bool) (rest : Mail) → InPhase j sc (Keeps x h r b more)
-    → sc.mail ≡ (clerk_of sc.server r.0, msg.Kept r.0 sc.server.durable.epoch b) ∷ rest → ((k : Clerk) → at (clerk_of sc.server r.0) sc.clerks ≡ Some k → log.batches_are_spent k.log ≡ false)
-    → GoesOn j sc (Keeps x h r b more) (delivered (clerk_of sc.server r.0) (msg.Kept r.0 sc.server.durable.epoch b) rest sc)
+    → sc.mail ≡ (session_clerk sc.server r.0, msg.Kept r.0 sc.server.durable.epoch b) ∷ rest → ((k : Clerk) → at (session_clerk sc.server r.0) sc.clerks ≡ Some k → log.batches_are_spent k.log ≡ false)
+    → GoesOn j sc (Keeps x h r b more) (delivered (session_clerk sc.server r.0) (msg.Kept r.0 sc.server.durable.epoch b) rest sc)
 
 -- The same of an operation that's pushed.
 abbrev pub PushedGoesOn : Type 0
@@ -66,9 +66,9 @@ MaySave (Calls cl) j b k = MayGo j (having_kept b k)
 MaySave (Pushes n) j b k = log.batches_are_spent k.log ≡ false
 
 abbrev pub MayTake : Work → Scene → Phase → Type 0
-MayTake j sc (Recalls x h (r ∷ rs) bs) = (k : Clerk) → at (clerk_of sc.server r.0) sc.clerks ≡ Some k → log.batches_are_spent k.log ≡ false
+MayTake j sc (Recalls x h (r ∷ rs) bs) = (k : Clerk) → at (session_clerk sc.server r.0) sc.clerks ≡ Some k → log.batches_are_spent k.log ≡ false
 MayTake j sc (Recalls x h [] bs) = ⊤
-MayTake j sc (Keeps x h r b more) = (k : Clerk) → at (clerk_of sc.server r.0) sc.clerks ≡ Some k → log.batches_are_spent k.log ≡ false
+MayTake j sc (Keeps x h r b more) = (k : Clerk) → at (session_clerk sc.server r.0) sc.clerks ≡ Some k → log.batches_are_spent k.log ≡ false
 MayTake j sc (Grants x h n) = (n ≤ sc.server.number) × ((k : Clerk) → at j.clerk sc.clerks ≡ Some k → MayGo j (taking x h n sc k).clerk)
 MayTake j sc (Gives got n first) = (n ≤ sc.server.number) × (nat_le last_grants got ≡ false) × ((k : Clerk) → at j.clerk sc.clerks ≡ Some k → MayGo j (add_ids n first k))
 MayTake j sc (Refuses again ask live reserved) = (k : Clerk) → at j.clerk sc.clerks ≡ Some k → MayGo j (unasking k)

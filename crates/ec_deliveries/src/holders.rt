@@ -11,7 +11,7 @@ ghost use Rattle.ec_recall.specs.Due.{recall_to};
 ghost use Rattle.ec_protocol.specs.Server.{serving};
 ghost use Rattle.ec_protocol.specs.declared.clerk.Clerk.{Clerk};
 ghost use Rattle.ec_protocol.specs.declared.server.Server.{Server};
-ghost use Rattle.ec_quiet.specs.Facts.{IsOrderly, clerk_of};
+ghost use Rattle.ec_quiet.specs.Facts.{IsOrderly, session_clerk};
 ghost use Rattle.ec_machine_laws.specs.Serving.{IsAtWork};
 
 /// The first holder that conflicts with a want is of another session, has its token by its number,
@@ -26,5 +26,5 @@ pub fn recalled_holders_give_back()
 
 /// A session that has a token is at work: its clerk's slot is open with it, and it has claimed.
 pub fn holders_are_at_work()
-    ensures { (v : Server) (clerks : Table Clerk) (s x : ℕ) (t : Token) → IsOrderly v clerks → token v.tokens s x ≡ Some t → (sl : Slot) × IsAtWork (clerk_of v s) s v.durable.epoch sl (serving v) }
+    ensures { (v : Server) (clerks : Table Clerk) (s x : ℕ) (t : Token) → IsOrderly v clerks → token v.tokens s x ≡ Some t → (sl : Slot) × IsAtWork (session_clerk v s) s v.durable.epoch sl (serving v) }
 {}

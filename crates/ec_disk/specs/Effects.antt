@@ -54,9 +54,9 @@ pub record LeavesOnly (old new : View) (Good : List ℕ → Type 0) : Type 0 whe
   pub before : (since : ℕ) (image : List ℕ) → since ≤ old.moment → new.left_since since image → old.left_since since image ⊎ Good image
 
 -- A disk that isn't armed, or has stopped: none of its turns is ahead.
-abbrev pub IsOver : Option ℕ → Type 0
-IsOver None = Unit {0}
-IsOver (Some left) = left ≡ 0
+abbrev pub IsUnarmed : Option ℕ → Type 0
+IsUnarmed None = Unit {0}
+IsUnarmed (Some left) = left ≡ 0
 
 -- Counts don't fall, and have risen where the call answers so. Only an armed disk stops, and no call of these arms one; one that has stopped
 -- stays so until it's disarmed.
@@ -67,8 +67,8 @@ pub record Counted (old new : Counts) (Failing Stopping : Type 0) : Type 0 where
   pub stopped : Stopping → Rose old.stops new.stops
   pub armed : Stopping → IsSome old.armed
   pub not_rearmed : IsSome new.armed → IsSome old.armed
-  pub stays : IsOver old.armed → IsOver new.armed
-  pub over : Stopping → IsOver new.armed
+  pub stays : IsUnarmed old.armed → IsUnarmed new.armed
+  pub over : Stopping → IsUnarmed new.armed
 
 -- the next read, write or sync stops
 abbrev pub IsDue : Option ℕ → Type 0

@@ -23,14 +23,14 @@ steps_of disk = disk.log.items
 abbrev pub counts_of_disk : MemDisk → Counts
 counts_of_disk disk = counts_of disk.turns
 
-abbrev pub answer_of : Turn → DiskAnswer
-answer_of turn.Goes = answer.Done
-answer_of turn.Fails = answer.Failed
-answer_of turn.Stops = answer.Stopped
+abbrev pub turn_answer : Turn → DiskAnswer
+turn_answer turn.Goes = answer.Done
+turn_answer turn.Fails = answer.Failed
+turn_answer turn.Stops = answer.Stopped
 
 -- what the next read, write or sync answers, where memory suffices
 abbrev pub next_answer : MemDisk → DiskAnswer
-next_answer disk = answer_of (next_turn disk.turns)
+next_answer disk = turn_answer (next_turn disk.turns)
 
 abbrev pub len_of : Turn → ℕ → DiskLen
 len_of turn.Goes bytes = len.Len bytes
@@ -80,11 +80,11 @@ pub record Adds (old : MemDisk) (says : Type 0) (steps : List Step) (new : MemDi
   pub steps_are : steps_of new ≡ steps
 
 -- what a call does: it answers as its turn says, or, where it needs memory, that there is none
-abbrev pub Does : MemDisk → Call → MemDisk → Type 0
-Does old (call.Read at before said after) new = Adds old (said ≡ next_answer old) (steps_of old) new
-Does old (call.Write at piece said) new = Adds old ((said ≡ answer.NoMemory) ⊎ (said ≡ next_answer old)) (with_write said at piece (steps_of old)) new
-Does old (call.Sync said) new = Adds old ((said ≡ answer.NoMemory) ⊎ (said ≡ next_answer old)) (with_step said step.Sync (steps_of old)) new
-Does old (call.Len said) new = Adds old (said ≡ next_len old) (steps_of old) new
+abbrev pub DoesCall : MemDisk → Call → MemDisk → Type 0
+DoesCall old (call.Read at before said after) new = Adds old (said ≡ next_answer old) (steps_of old) new
+DoesCall old (call.Write at piece said) new = Adds old ((said ≡ answer.NoMemory) ⊎ (said ≡ next_answer old)) (with_write said at piece (steps_of old)) new
+DoesCall old (call.Sync said) new = Adds old ((said ≡ answer.NoMemory) ⊎ (said ≡ next_answer old)) (with_step said step.Sync (steps_of old)) new
+DoesCall old (call.Len said) new = Adds old (said ≡ next_len old) (steps_of old) new
 
 -- a power cut is done, or there is no memory for it and nothing changes
 pub record CutBy (choice : Choice) (old : MemDisk) (said : DiskAnswer) (new : MemDisk) : Type 0 where

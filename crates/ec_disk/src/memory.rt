@@ -132,7 +132,7 @@ fn after_cut(
 }
 
 impl Disk for MemDisk {
-    ghost use Rattle.ec_disk.specs.Memory.{steps_of, counts_of_disk, Does};
+    ghost use Rattle.ec_disk.specs.Memory.{steps_of, counts_of_disk, DoesCall};
     ghost use Rattle.ec_disk.specs.Past.{view_of};
     ghost use Rattle.ec_disk.specs.PastLaws.{given as past_given, given_synced as past_given_synced, counts_now as past_counts_now, only_now as past_only_now};
 
@@ -142,7 +142,7 @@ impl Disk for MemDisk {
 
     ghost counts = { λ disk. counts_of_disk disk };
 
-    ghost does = { λ old call new. Does old call new };
+    ghost does = { λ old call new. DoesCall old call new };
 
     ghost given = { λ told disk. past_given (steps_of disk) };
 

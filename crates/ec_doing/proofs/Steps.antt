@@ -44,7 +44,7 @@ use Rattle.ec_protocol.specs.declared.clerk.Out.{Out}
 use Rattle.ec_protocol.specs.declared.clerk.Recalled.{Recalled}
 use Rattle.ec_protocol.specs.Clerk as clerk
 use Rattle.ec_doing.specs.declared.doing.Doing.{Doing}
-use Rattle.ec_doing.specs.Seen.{clerk_of, doing_of, Ends, enter_if_later, serve, send_if_batch, send_back, send_numbers}
+use Rattle.ec_doing.specs.Seen.{clerk_with, doing_of, EndsWith, enter_if_later, serve, send_if_batch, send_back, send_numbers}
 
 pub on_ok : {X E P Q : Type 0} (r : Result X E) → (P → Q) → OnOk r P → OnOk r Q
 on_ok (Ok x) f p = f p
@@ -65,16 +65,16 @@ when_false b x y new e h = ap (λ c. elim c as (λ z. clerk.Doing) [ true ↦ x 
 pub then_goes : (f : clerk.Doing → clerk.Doing) (d mid new : clerk.Doing) → d ≡ mid → f mid ≡ new → f d ≡ new
 then_goes f d mid new e h = ap f e ∙ h
 
-pub ends_with : (f : clerk.Doing → clerk.Doing) (k l : Clerk) (d : clerk.Doing) (e : clerk.Doing) (outs : List Out) → d ≡ clerk.doing k → f d ≡ e → Ends e l outs → Ends (f (clerk.doing k)) l outs
+pub ends_with : (f : clerk.Doing → clerk.Doing) (k l : Clerk) (d : clerk.Doing) (e : clerk.Doing) (outs : List Out) → d ≡ clerk.doing k → f d ≡ e → EndsWith e l outs → EndsWith (f (clerk.doing k)) l outs
 ends_with f k l d e outs is went ended = ap f (sym is) ∙ went ∙ ended
 
-pub two_steps : (f g : clerk.Doing → clerk.Doing) (k l : Clerk) (d e x : clerk.Doing) (outs : List Out) → d ≡ clerk.doing k → f d ≡ e → g e ≡ x → Ends x l outs → Ends (g (f (clerk.doing k))) l outs
+pub two_steps : (f g : clerk.Doing → clerk.Doing) (k l : Clerk) (d e x : clerk.Doing) (outs : List Out) → d ≡ clerk.doing k → f d ≡ e → g e ≡ x → EndsWith x l outs → EndsWith (g (f (clerk.doing k))) l outs
 two_steps f g k l d e x outs is went then ended = ap (λ y. g (f y)) (sym is) ∙ ap g went ∙ then ∙ ended
 
 pub settled_all : (d m n new : clerk.Doing) → serve d ≡ m → clerk.try_all m ≡ n → clerk.evict n ≡ new → clerk.settle d ≡ new
 settled_all d m n new served tried h = ap (λ x. clerk.evict (clerk.try_all x)) served ∙ ap clerk.evict tried ∙ h
 
-pub begun : (c : Call) (k l : Clerk) (d e x : clerk.Doing) (outs : List Out) → nat_le last_counter k.calls ≡ false → d ≡ clerk.doing k → clerk.with_clerk (clerk.add_call c) d ≡ e → clerk.settle e ≡ x → Ends x l outs → Ends (clerk.begin c k) l outs
+pub begun : (c : Call) (k l : Clerk) (d e x : clerk.Doing) (outs : List Out) → nat_le last_counter k.calls ≡ false → d ≡ clerk.doing k → clerk.with_clerk (clerk.add_call c) d ≡ e → clerk.settle e ≡ x → EndsWith x l outs → EndsWith (clerk.begin c k) l outs
 begun c k l d e x outs below is added settled ended =
     let began = clerk.settle (clerk.doing (clerk.add_call c k)) in
     when_false (nat_le last_counter k.calls) (clerk.spend counter.CallNo (clerk.doing k)) began began below refl
@@ -154,10 +154,10 @@ given_back ws d r to k m new left low past h =
     let lowered = λ (t : Hold). clerk.lower_held r.obj t (at r.obj d.cache.held) d.cache in
     ap (λ t. sent t (cached.passed r.obj r.number (lowered t))) (sym left) ∙ ap (λ c. sent to (cached.passed r.obj r.number c)) (sym low) ∙ ap (sent to) (sym past) ∙ h
 
-pub want_sent : (ws : List Waiting) (d : Doing) (s last x : ℕ) (h : Hold) (w : Wanted) (v : List Wanted) (new : clerk.Doing) → s ≡ clerk.session (doing_of [] d) → w ≡ clerk.wanted x h (clerk_of [] d) → last ≡ w.last → v ≡ d.wanted.items ++ w ∷ [] → clerk.send (Want s d.epoch x h last) (clerk.with_clerk (λ k. record k { wanted = reverse v }) (doing_of ws d)) ≡ new → clerk.send_want x h (doing_of ws d) ≡ new
+pub want_sent : (ws : List Waiting) (d : Doing) (s last x : ℕ) (h : Hold) (w : Wanted) (v : List Wanted) (new : clerk.Doing) → s ≡ clerk.session (doing_of [] d) → w ≡ clerk.wanted x h (clerk_with [] d) → last ≡ w.last → v ≡ d.wanted.items ++ w ∷ [] → clerk.send (Want s d.epoch x h last) (clerk.with_clerk (λ k. record k { wanted = reverse v }) (doing_of ws d)) ≡ new → clerk.send_want x h (doing_of ws d) ≡ new
 want_sent ws d s last x h w v new at_s at_w at_last at_v went =
     let sent = λ (t l : ℕ) (us : List Wanted). clerk.send (Want t d.epoch x h l) (clerk.with_clerk (λ k. record k { wanted = us }) (doing_of ws d)) in
-    let w0 = clerk.wanted x h (clerk_of [] d) in
+    let w0 = clerk.wanted x h (clerk_with [] d) in
     let turned : reverse v ≡ w ∷ reverse d.wanted.items = ap reverse at_v ∙ reverse-append d.wanted.items (w ∷ []) in
     ap (λ t. sent t w0.last (w0 ∷ reverse d.wanted.items)) (sym at_s) ∙ ap (λ u. sent s u.last (u ∷ reverse d.wanted.items)) (sym at_w) ∙ ap (λ l. sent s l (w ∷ reverse d.wanted.items)) (sym at_last) ∙ ap (sent s last) (sym turned) ∙ went
 
@@ -173,17 +173,17 @@ pub asked : (ws : List Waiting) (d : Doing) (a : Asked) (p : Pick) (l : LogState
 asked ws d a p l new made left room h =
     ap (λ q. clerk.send_picked q (doing_of ws d)) (sym made) ∙ picked ws d p new room (ap (λ m. send_if_batch p (clerk.with_log (λ x. m) (doing_of ws d))) (sym left) ∙ h)
 
-pub recall_ready : (ws : List Waiting) (d : Doing) (r : Recalled) (new : clerk.Doing) → clerk.is_ready r (clerk_of [] d) ≡ true → clerk.give_back r (doing_of ws d) ≡ new → clerk.try_recalls (r ∷ []) (doing_of ws d) ≡ new
+pub recall_ready : (ws : List Waiting) (d : Doing) (r : Recalled) (new : clerk.Doing) → clerk.is_ready r (clerk_with [] d) ≡ true → clerk.give_back r (doing_of ws d) ≡ new → clerk.try_recalls (r ∷ []) (doing_of ws d) ≡ new
 recall_ready ws d r new e h =
     let chosen : Bool → clerk.Doing = λ b. elim b [ true ↦ clerk.give_back r (doing_of ws d) | false ↦ clerk.keep_recall r (clerk.ask_for (Object r.obj) (doing_of ws d)) ] in
     ap chosen e ∙ h
 
-pub recall_kept : (ws : List Waiting) (d : Doing) (r : Recalled) (mid new : clerk.Doing) → clerk.is_ready r (clerk_of [] d) ≡ false → clerk.ask_for (Object r.obj) (doing_of ws d) ≡ mid → clerk.keep_recall r mid ≡ new → clerk.try_recalls (r ∷ []) (doing_of ws d) ≡ new
+pub recall_kept : (ws : List Waiting) (d : Doing) (r : Recalled) (mid new : clerk.Doing) → clerk.is_ready r (clerk_with [] d) ≡ false → clerk.ask_for (Object r.obj) (doing_of ws d) ≡ mid → clerk.keep_recall r mid ≡ new → clerk.try_recalls (r ∷ []) (doing_of ws d) ≡ new
 recall_kept ws d r mid new e a h =
     let chosen : Bool → clerk.Doing = λ b. elim b [ true ↦ clerk.give_back r (doing_of ws d) | false ↦ clerk.keep_recall r (clerk.ask_for (Object r.obj) (doing_of ws d)) ] in
     ap chosen e ∙ ap (clerk.keep_recall r) a ∙ h
 
-pub push_kept : (ws : List Waiting) (d : Doing) (n : ℕ) (mid new : clerk.Doing) → clerk.is_settled (Op n) (clerk_of [] d) ≡ false → clerk.keep_push n (doing_of ws d) ≡ mid → clerk.ask_for (Op n) mid ≡ new → clerk.try_pushes (n ∷ []) (doing_of ws d) ≡ new
+pub push_kept : (ws : List Waiting) (d : Doing) (n : ℕ) (mid new : clerk.Doing) → clerk.is_settled (Op n) (clerk_with [] d) ≡ false → clerk.keep_push n (doing_of ws d) ≡ mid → clerk.ask_for (Op n) mid ≡ new → clerk.try_pushes (n ∷ []) (doing_of ws d) ≡ new
 push_kept ws d n mid new e k h =
     let chosen : Bool → clerk.Doing = λ b. elim b [ true ↦ doing_of ws d | false ↦ clerk.ask_for (Op n) (clerk.keep_push n (doing_of ws d)) ] in
     ap chosen e ∙ ap (clerk.ask_for (Op n)) k ∙ h
@@ -191,15 +191,15 @@ push_kept ws d n mid new e k h =
 pub both_true : (a b : Bool) → a ≡ true → b ≡ false → (a && not b) ≡ true
 both_true a b p q = ap (λ x. x && not b) p ∙ ap not q
 
-pub want_goes : (ws : List Waiting) (d : Doing) (x : ℕ) (h : Hold) (new : clerk.Doing) → clerk.may_want x h (clerk_of [] d) ≡ true → list_any (clerk.is_wanted (clerk.wanted x h (clerk_of [] d))) (clerk_of [] d).wanted ≡ false → clerk.send_want x h (doing_of ws d) ≡ new → clerk.want x h (doing_of ws d) ≡ new
+pub want_goes : (ws : List Waiting) (d : Doing) (x : ℕ) (h : Hold) (new : clerk.Doing) → clerk.may_want x h (clerk_with [] d) ≡ true → list_any (clerk.is_wanted (clerk.wanted x h (clerk_with [] d))) (clerk_with [] d).wanted ≡ false → clerk.send_want x h (doing_of ws d) ≡ new → clerk.want x h (doing_of ws d) ≡ new
 want_goes ws d x h new m s went =
     let chosen : Bool → clerk.Doing = λ b. elim b [ true ↦ clerk.send_want x h (doing_of ws d) | false ↦ doing_of ws d ] in
-    ap chosen (both_true (clerk.may_want x h (clerk_of [] d)) (list_any (clerk.is_wanted (clerk.wanted x h (clerk_of [] d))) (clerk_of [] d).wanted) m s) ∙ went
+    ap chosen (both_true (clerk.may_want x h (clerk_with [] d)) (list_any (clerk.is_wanted (clerk.wanted x h (clerk_with [] d))) (clerk_with [] d).wanted) m s) ∙ went
 
-pub need_goes : (ws : List Waiting) (d : Doing) (x : ℕ) (h : Hold) (sent : List (ℕ × Hold)) (new : clerk.Doing) → clerk.may_want x h (clerk_of [] d) ≡ true → list_any (clerk.is_need x h) sent ≡ false → clerk.send_want x h (doing_of ws d) ≡ new → clerk.resend_want x h sent (doing_of ws d) ≡ new
+pub need_goes : (ws : List Waiting) (d : Doing) (x : ℕ) (h : Hold) (sent : List (ℕ × Hold)) (new : clerk.Doing) → clerk.may_want x h (clerk_with [] d) ≡ true → list_any (clerk.is_need x h) sent ≡ false → clerk.send_want x h (doing_of ws d) ≡ new → clerk.resend_want x h sent (doing_of ws d) ≡ new
 need_goes ws d x h sent new m s went =
     let chosen : Bool → clerk.Doing = λ b. elim b [ true ↦ clerk.send_want x h (doing_of ws d) | false ↦ doing_of ws d ] in
-    ap chosen (both_true (clerk.may_want x h (clerk_of [] d)) (list_any (clerk.is_need x h) sent) m s) ∙ went
+    ap chosen (both_true (clerk.may_want x h (clerk_with [] d)) (list_any (clerk.is_need x h) sent) m s) ∙ went
 
 pub room_asked : (ws : List Waiting) (d : Doing) (a : ℕ) (new : clerk.Doing) → a ≡ d.asks + 1 → nat_le last_counter d.asks ≡ false → clerk.send_room a (doing_of ws (record d { asking = Some a; asks = a })) ≡ new → clerk.ask_anew (doing_of ws d) ≡ new
 room_asked ws d a new is below h =
@@ -306,7 +306,7 @@ pub ids_added : (ws : List Waiting) (d : Doing) (n first : ℕ) (r v : List ℕ)
 ids_added ws d n first r v k at_r at_v at_k =
     ap (λ x. added ws d (d.ids.items ++ x) (clerk.take_each n x d.cache)) (sym at_r) ∙ ap (λ x. added ws d x (clerk.take_each n r d.cache)) (sym at_v) ∙ ap (added ws d v) (sym at_k)
 
-pub one_refused : (ws : List Waiting) (d : Doing) (live reserved : ℕ) (w : Waiting) (xs : List ℕ) (new : clerk.Doing) → clerk.idless (clerk.verdict w.call (clerk_of [] d)) ≡ Some xs → clerk.refuse_make live reserved w.no xs (doing_of ws d) ≡ new → clerk.refuse_makes live reserved (w ∷ []) (doing_of ws d) ≡ new
+pub one_refused : (ws : List Waiting) (d : Doing) (live reserved : ℕ) (w : Waiting) (xs : List ℕ) (new : clerk.Doing) → clerk.idless (clerk.verdict w.call (clerk_with [] d)) ≡ Some xs → clerk.refuse_make live reserved w.no xs (doing_of ws d) ≡ new → clerk.refuse_makes live reserved (w ∷ []) (doing_of ws d) ≡ new
 one_refused ws d live reserved w xs new e h =
     let chosen : Option (List ℕ) → clerk.Doing = λ o. elim o [ Some ys ↦ clerk.refuse_make live reserved w.no ys (doing_of ws d) | None ↦ clerk.keep_call w (doing_of ws d) ] in
     ap chosen e ∙ h

@@ -24,8 +24,8 @@ use Rattle.ec_doing.specs.declared.doing.Tried.{Tried}
 use Rattle.ec_doing.specs.declared.doing.Tried.TheVariants.{Waits, Answered}
 
 -- the clerk, with these calls waiting
-abbrev pub clerk_of : List Waiting → Doing → Clerk
-clerk_of ws d =
+abbrev pub clerk_with : List Waiting → Doing → Clerk
+clerk_with ws d =
     record {
       id = d.id;
       age = d.age;
@@ -46,7 +46,7 @@ clerk_of ws d =
     }
 
 abbrev pub doing_of : List Waiting → Doing → machine.Doing
-doing_of ws d = record { clerk = clerk_of ws d; outs = d.outs.items; spent = None }
+doing_of ws d = record { clerk = clerk_with ws d; outs = d.outs.items; spent = None }
 
 -- the code did what the function does, whatever calls wait
 abbrev pub Does : (machine.Doing → machine.Doing) → Doing → Doing → Type 0
@@ -73,8 +73,8 @@ abbrev pub send_if_batch : Pick → machine.Doing → machine.Doing
 send_if_batch (pick_of.Batch b ns) d = machine.send_batch b d
 send_if_batch _ d = d
 
-abbrev pub call_of : ℕ → Call → ℕ → Waiting
-call_of n c b = record { no = n; call = c; begun = b }
+abbrev pub waiting_of : ℕ → Call → ℕ → Waiting
+waiting_of n c b = record { no = n; call = c; begun = b }
 
 abbrev pub outcome_of : Reply → Option Update → List ℕ → Outcome
 outcome_of r u xs = record { reply = r; update = u; touched = xs }
@@ -89,9 +89,9 @@ send_numbers [] d = d
 send_numbers (e ∷ es) d = send_numbers es (send_back e.0 e.1 Free d)
 
 -- the first of the calls that is answered has the place, and is answered; or all were tried
-abbrev pub IsFirst : List Waiting → Option ℕ → Doing → Doing → Type 0
-IsFirst calls None old new = (ws before : List Waiting) → machine.try_each before calls (doing_of ws old) ≡ machine.Waits (doing_of ws new)
-IsFirst calls (Some n) old new =
+abbrev pub IsFirstAnswered : List Waiting → Option ℕ → Doing → Doing → Type 0
+IsFirstAnswered calls None old new = (ws before : List Waiting) → machine.try_each before calls (doing_of ws old) ≡ machine.Waits (doing_of ws new)
+IsFirstAnswered calls (Some n) old new =
     (n < length calls)
     × ((ws before : List Waiting) → machine.try_each before calls (doing_of ws old) ≡ machine.Answered (doing_of (before ++ take n calls ++ drop (n + 1) calls) new))
 
@@ -104,8 +104,8 @@ abbrev pub is_room_left : Doing → Bool
 is_room_left d = nat_lt d.got last_grants
 
 -- the step was taken, and these came out
-abbrev pub Ends : machine.Doing → Clerk → List Out → Type 0
-Ends d k outs = d ≡ record { clerk = k; outs = outs; spent = None }
+abbrev pub EndsWith : machine.Doing → Clerk → List Out → Type 0
+EndsWith d k outs = d ≡ record { clerk = k; outs = outs; spent = None }
 
 -- in a session recalls are answered, and pushes asked for
 abbrev pub serve : machine.Doing → machine.Doing
@@ -127,16 +127,16 @@ abbrev pub take_kept : ℕ → ℕ → machine.Doing → machine.Doing
 take_kept s b d = elim (machine.is_session s d.clerk.session) [ true ↦ machine.with_log (logs.kept b) d | false ↦ d ]
 
 -- a step begins
-abbrev pub Begins : Doing → Doing → Type 0
-Begins old new = (ws : List Waiting) → doing_of ws new ≡ machine.doing (clerk_of ws old)
+abbrev pub BeginsStep : Doing → Doing → Type 0
+BeginsStep old new = (ws : List Waiting) → doing_of ws new ≡ machine.doing (clerk_with ws old)
 
 -- these came out of it, and the rest stays
 abbrev pub Yields : List Out → Doing → Doing → Type 0
-Yields outs old new = (ws : List Waiting) → Ends (doing_of ws old) (clerk_of ws new) outs
+Yields outs old new = (ws : List Waiting) → EndsWith (doing_of ws old) (clerk_with ws new) outs
 
 -- the counter that the message would pass
 abbrev pub Spends : Msg → Counter → Doing → Type 0
-Spends m c d = (ws : List Waiting) → (machine.taken m (machine.doing (clerk_of ws d))).spent ≡ Some c
+Spends m c d = (ws : List Waiting) → (machine.taken m (machine.doing (clerk_with ws d))).spent ≡ Some c
 
 -- an epoch above its own one is entered
 abbrev pub enter_if_later : ℕ → machine.Doing → machine.Doing

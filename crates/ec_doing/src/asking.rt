@@ -1,7 +1,7 @@
 // Asking for closures to be durable.
 ghost use Rattle.std.specs.Prelude.{◌≡◌, [], OnOk};
 ghost use Rattle.ec_protocol.specs.Clerk as clerk;
-ghost use Rattle.ec_doing.specs.Seen.{clerk_of, send_if_batch, Does};
+ghost use Rattle.ec_doing.specs.Seen.{clerk_with, send_if_batch, Does};
 
 use crate::doing::Doing;
 use ec_base::NoMemory;
@@ -12,7 +12,7 @@ use ec_wire::Msg;
 impl Doing {
     /// Whether nothing that is asked for by itself is undurable.
     pub(crate) fn is_settled(&self, asked: Asked) -> bool
-        ensures { result ≡ clerk.is_settled asked (clerk_of [] self.now) }
+        ensures { result ≡ clerk.is_settled asked (clerk_with [] self.now) }
     {
         self.ledger.log.first(asked).is_none()
     }

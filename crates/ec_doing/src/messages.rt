@@ -3,7 +3,7 @@ ghost use Rattle.std.specs.Prelude.{◌≡◌, ◌≤◌, true, [], ◌∷◌, N
 ghost use Rattle.ec_sessions.specs.Limits.{last_first_id};
 ghost use Rattle.ec_cache.specs.Held.{is_within};
 ghost use Rattle.ec_protocol.specs.Clerk as clerk;
-ghost use Rattle.ec_doing.specs.Seen.{clerk_of, doing_of, enter_if_later, take_grant, Does, is_room_left};
+ghost use Rattle.ec_doing.specs.Seen.{clerk_with, doing_of, enter_if_later, take_grant, Does, is_room_left};
 
 use crate::doing::Doing;
 use ec_base::{Age, Hold, List, NoMemory, ObjId, SessionNo};
@@ -150,7 +150,7 @@ impl Doing {
 
     // Whether a call lacks an id, and is answered for that.
     fn refuse_idless(&mut self, live: u32, reserved: u32, call: &Waiting) -> Result<bool, NoMemory>
-        ensures { IfOk result (λ is_refused. MatchBool is_refused (Does (clerk.refuse_makes live reserved (call.now ∷ [])) self.old self.new) ((self.new ≡ self.old) × (clerk.idless (clerk.verdict call.now.call (clerk_of [] self.old)) ≡ None))) }
+        ensures { IfOk result (λ is_refused. MatchBool is_refused (Does (clerk.refuse_makes live reserved (call.now ∷ [])) self.old self.new) ((self.new ≡ self.old) × (clerk.idless (clerk.verdict call.now.call (clerk_with [] self.old)) ≡ None))) }
     {
         match self.idless(&call.call)? {
             Some(touched) => {
@@ -163,7 +163,7 @@ impl Doing {
 
     // What a call touched that lacks an id.
     fn idless(&self, call: &Call) -> Result<Option<List<ObjId>>, NoMemory>
-        ensures { IfOk result (λ touched. touched ≡ clerk.idless (clerk.verdict call.now (clerk_of [] self.now))) }
+        ensures { IfOk result (λ touched. touched ≡ clerk.idless (clerk.verdict call.now (clerk_with [] self.now))) }
     {
         match self.verdict(call)? {
             Verdict::NeedIds(touched) => Ok(Some(touched)),

@@ -1,7 +1,7 @@
 // Pushes: a pushed closure is asked for until it's durable.
 ghost use Rattle.std.specs.Prelude.{◌≡◌, [], ◌∷◌, OnOk};
 ghost use Rattle.ec_protocol.specs.Clerk as clerk;
-ghost use Rattle.ec_doing.specs.Seen.{clerk_of, keep_if_own, Does};
+ghost use Rattle.ec_doing.specs.Seen.{clerk_with, keep_if_own, Does};
 
 use crate::doing::Doing;
 use ec_base::{NoMemory, OpNo};
@@ -18,7 +18,7 @@ impl Doing {
 
     /// Whether this start issued the operation.
     pub fn has_issued(&self, op: OpNo) -> bool
-        ensures { result ≡ clerk.has_issued op (clerk_of [] self.now) }
+        ensures { result ≡ clerk.has_issued op (clerk_with [] self.now) }
     {
         1 <= op.0 && op.0 < self.ledger.log.next()
     }

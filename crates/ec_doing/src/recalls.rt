@@ -2,7 +2,7 @@
 ghost use Rattle.std.specs.Prelude.{◌≡◌, [], ◌∷◌, OnOk};
 ghost use Rattle.ec_base.specs.Tables.{at};
 ghost use Rattle.ec_protocol.specs.Clerk as clerk;
-ghost use Rattle.ec_doing.specs.Seen.{clerk_of, send_back, Does};
+ghost use Rattle.ec_doing.specs.Seen.{clerk_with, send_back, Does};
 
 use crate::doing::Doing;
 use ec_base::{Hold, NoMemory, ObjId};
@@ -15,7 +15,7 @@ use std::mem;
 impl Doing {
     /// Whether a recall of the object isn't answered.
     pub(crate) fn under_recall(&self, obj: ObjId) -> bool
-        ensures { result ≡ clerk.under_recall obj (clerk_of [] self.now) }
+        ensures { result ≡ clerk.under_recall obj (clerk_with [] self.now) }
     {
         self.recalls.iter().any(|recalled| recalled.obj == obj)
     }
@@ -54,7 +54,7 @@ impl Doing {
     }
 
     fn is_ready(&self, recalled: &Recalled) -> bool
-        ensures { result ≡ clerk.is_ready recalled.now (clerk_of [] self.now) }
+        ensures { result ≡ clerk.is_ready recalled.now (clerk_with [] self.now) }
     {
         is_ready(&self.cache, &self.ledger.log, recalled)
     }

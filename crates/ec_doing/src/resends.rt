@@ -2,7 +2,7 @@
 ghost use Rattle.std.specs.Prelude.{◌≡◌, [], ◌∷◌, reverse, IfOk, OnOk, MatchOption};
 ghost use Rattle.std.specs.List.{list_any};
 ghost use Rattle.ec_protocol.specs.Clerk as clerk;
-ghost use Rattle.ec_doing.specs.Seen.{claim_all, clerk_of, doing_of, Does};
+ghost use Rattle.ec_doing.specs.Seen.{claim_all, clerk_with, doing_of, Does};
 
 use crate::doing::Doing;
 use ec_base::{Hold, NoMemory, ObjId};
@@ -41,7 +41,7 @@ impl Doing {
 
     // What a call needs.
     fn need(&self, call: &Call) -> Result<Option<(ObjId, Hold)>, NoMemory>
-        ensures { IfOk result (λ need. MatchOption need (clerk.need_of (clerk.verdict call.now (clerk_of [] self.now)) ≡ []) (λ p. clerk.need_of (clerk.verdict call.now (clerk_of [] self.now)) ≡ p ∷ [])) }
+        ensures { IfOk result (λ need. MatchOption need (clerk.need_of (clerk.verdict call.now (clerk_with [] self.now)) ≡ []) (λ p. clerk.need_of (clerk.verdict call.now (clerk_with [] self.now)) ≡ p ∷ [])) }
     {
         let verdict = self.verdict(call)?;
         let need = need_of(&verdict);
@@ -51,7 +51,7 @@ impl Doing {
 
     // What the waiting calls need.
     fn needs(&self, waiting: &[Waiting]) -> Result<Vec<(ObjId, Hold)>, NoMemory>
-        ensures { IfOk result (λ needs. needs.items ≡ clerk.needs waiting.now (clerk_of waiting.now self.now)) }
+        ensures { IfOk result (λ needs. needs.items ≡ clerk.needs waiting.now (clerk_with waiting.now self.now)) }
     {
         let mut needs = Vec::new(self.alloc);
         'calls: for call in waiting {

@@ -1,7 +1,7 @@
 // The waiting calls are tried in order; after an answer again from the first, but for those at the front of which a try comes to nothing still.
 ghost use Rattle.std.specs.Prelude.{◌≡◌, [], true, length, take, option_map, slice_get, IfOk, IfSome, OnOk};
 ghost use Rattle.ec_protocol.specs.Clerk as clerk;
-ghost use Rattle.ec_doing.specs.Seen.{doing_of, tried, IsFirst};
+ghost use Rattle.ec_doing.specs.Seen.{doing_of, tried, IsFirstAnswered};
 ghost use Rattle.ec_doing.specs.Resting.{AllRest, is_plain, is_plain_at, tried_of};
 
 use crate::doing::{Doing, Tried};
@@ -49,7 +49,7 @@ fn first_answered(
     front: usize,
 ) -> Result<Option<Found>, NoMemory>
     requires { AllRest (take front waiting.now) doing.old }
-    ensures first { IfOk result (λ found. IsFirst waiting.now (option_map (λ f. f.place) found) doing.old doing.new) }
+    ensures first { IfOk result (λ found. IsFirstAnswered waiting.now (option_map (λ f. f.place) found) doing.old doing.new) }
     ensures rest { IfOk result (λ found. IfSome found (λ f. f.rest ≡ true → AllRest (take f.place waiting.now) doing.new)) }
 {
     let mut place = front;

@@ -4,7 +4,7 @@ ghost use Rattle.ec_base.specs.Limits.{last_counter};
 ghost use Rattle.ec_wire.specs.Messages.{is_sound};
 ghost use Rattle.ec_protocol.specs.declared.clerk.Waiting.{Waiting as Waits};
 ghost use Rattle.ec_protocol.specs.Clerk as clerk;
-ghost use Rattle.ec_doing.specs.Seen.{clerk_of, doing_of, send_if_batch, serve, part, Begins, Does, Ends, Yields};
+ghost use Rattle.ec_doing.specs.Seen.{clerk_with, doing_of, send_if_batch, serve, part, BeginsStep, Does, EndsWith, Yields};
 
 use crate::deliveries::taken;
 use crate::doing::Doing;
@@ -40,7 +40,7 @@ impl Doing {
 
     // Nothing came out yet.
     fn clear(&mut self)
-        ensures { Begins self.old self.new }
+        ensures { BeginsStep self.old self.new }
     {
         self.outs = Vec::new(self.alloc);
     }
@@ -87,7 +87,7 @@ pub fn begin(
 ) -> Result<Vec<Out>, NoMemory>
     requires next { no ≡ doing.old.calls + 1 }
     requires below { doing.old.calls < last_counter }
-    ensures { IfOk result (λ outs. Ends (clerk.begin call (clerk_of waiting.old.items doing.old)) (clerk_of waiting.new.items doing.new) outs.items) }
+    ensures { IfOk result (λ outs. EndsWith (clerk.begin call (clerk_with waiting.old.items doing.old)) (clerk_with waiting.new.items doing.new) outs.items) }
 {
     doing.clear();
     add_call(doing, waiting, no, call)?;
@@ -97,7 +97,7 @@ pub fn begin(
 
 /// Asks for the closure of an operation of this session.
 pub fn push(doing: &mut Doing, waiting: &mut Vec<Waiting>, op: OpNo) -> Result<Vec<Out>, NoMemory>
-    ensures { IfOk result (λ outs. Ends (clerk.push op (clerk_of waiting.old.items doing.old)) (clerk_of waiting.new.items doing.new) outs.items) }
+    ensures { IfOk result (λ outs. EndsWith (clerk.push op (clerk_with waiting.old.items doing.old)) (clerk_with waiting.new.items doing.new) outs.items) }
 {
     doing.clear();
     doing.keep_if_own(op)?;
@@ -108,7 +108,7 @@ pub fn push(doing: &mut Doing, waiting: &mut Vec<Waiting>, op: OpNo) -> Result<V
 /// Takes a message.
 pub fn take(doing: &mut Doing, waiting: &mut Vec<Waiting>, msg: Msg) -> Result<Vec<Out>, NoMemory>
     requires { is_sound msg ≡ true }
-    ensures { IfOk result (λ outs. Ends (clerk.take msg (clerk_of waiting.old.items doing.old)) (clerk_of waiting.new.items doing.new) outs.items) }
+    ensures { IfOk result (λ outs. EndsWith (clerk.take msg (clerk_with waiting.old.items doing.old)) (clerk_with waiting.new.items doing.new) outs.items) }
 {
     doing.clear();
     taken(doing, waiting, msg)?;
@@ -118,7 +118,7 @@ pub fn take(doing: &mut Doing, waiting: &mut Vec<Waiting>, msg: Msg) -> Result<V
 
 /// Sends again what is held and what is outstanding; without a session it greets.
 pub fn resend(doing: &mut Doing, waiting: &[Waiting]) -> Result<Vec<Out>, NoMemory>
-    ensures { IfOk result (λ outs. Ends (clerk.resend (clerk_of waiting.now doing.old)) (clerk_of waiting.now doing.new) outs.items) }
+    ensures { IfOk result (λ outs. EndsWith (clerk.resend (clerk_with waiting.now doing.old)) (clerk_with waiting.now doing.new) outs.items) }
 {
     doing.clear();
     doing.claim_all(waiting)?;
@@ -127,7 +127,7 @@ pub fn resend(doing: &mut Doing, waiting: &[Waiting]) -> Result<Vec<Out>, NoMemo
 
 /// Says goodbye, in a session.
 pub fn bye(doing: &mut Doing) -> Result<Vec<Out>, NoMemory>
-    ensures { IfOk result (λ outs. (ws : List Waits) → Ends (clerk.bye (clerk_of ws doing.old)) (clerk_of ws doing.new) outs.items) }
+    ensures { IfOk result (λ outs. (ws : List Waits) → EndsWith (clerk.bye (clerk_with ws doing.old)) (clerk_with ws doing.new) outs.items) }
 {
     doing.clear();
     doing.part()?;
@@ -136,7 +136,7 @@ pub fn bye(doing: &mut Doing) -> Result<Vec<Out>, NoMemory>
 
 /// Sends what was picked.
 pub fn send_pick(doing: &mut Doing, pick: &Pick) -> Result<Vec<Out>, NoMemory>
-    ensures { IfOk result (λ outs. (ws : List Waits) → Ends (send_if_batch pick.now (clerk.doing (clerk_of ws doing.old))) (clerk_of ws doing.new) outs.items) }
+    ensures { IfOk result (λ outs. (ws : List Waits) → EndsWith (send_if_batch pick.now (clerk.doing (clerk_with ws doing.old))) (clerk_with ws doing.new) outs.items) }
 {
     doing.clear();
     doing.send_picked(pick)?;

@@ -6,7 +6,7 @@ ghost use Rattle.ec_plain.specs.declared.call.Call.{Call as Asking};
 ghost use Rattle.ec_log.specs.Log.{ops_are_spent};
 ghost use Rattle.ec_resolve.specs.declared.verdict.Verdict.TheVariants as lost;
 ghost use Rattle.ec_protocol.specs.Clerk as clerk;
-ghost use Rattle.ec_doing.specs.Seen.{clerk_of, Does, Tries, HasRoom, LacksRoom, call_of, outcome_of};
+ghost use Rattle.ec_doing.specs.Seen.{clerk_with, Does, Tries, HasRoom, LacksRoom, waiting_of, outcome_of};
 
 use crate::doing::{Doing, Tried};
 use ec_base::{List, NoMemory, ObjId, OpNo};
@@ -31,7 +31,7 @@ impl Doing {
 
     /// What a call comes to.
     pub(crate) fn verdict(&self, call: &Call) -> Result<Verdict, NoMemory>
-        ensures { IfOk result (λ verdict. verdict ≡ clerk.verdict call.now (clerk_of [] self.now)) }
+        ensures { IfOk result (λ verdict. verdict ≡ clerk.verdict call.now (clerk_with [] self.now)) }
     {
         evaluate(
             self.alloc,
@@ -50,7 +50,7 @@ impl Doing {
         op: Option<OpNo>,
         touched: &[ObjId],
     ) -> Result<Tried, NoMemory>
-        ensures { IfOk result (λ tried. (call : Asking) (begun : ℕ) → Tries (clerk.answer_with (call_of no call begun) answer op touched.now) tried self.old self.new) }
+        ensures { IfOk result (λ tried. (call : Asking) (begun : ℕ) → Tries (clerk.answer_with (waiting_of no call begun) answer op touched.now) tried self.old self.new) }
     {
         use_all(&mut self.cache, touched);
         self.emit(Out::Answer(no, answer, op))?;
@@ -63,7 +63,7 @@ impl Doing {
         reply: Reply,
         touched: List<ObjId>,
     ) -> Result<Tried, NoMemory>
-        ensures { IfOk result (λ tried. (call : Asking) (begun : ℕ) (u : Option Change) → Tries (clerk.await (call_of no call begun) (outcome_of reply u touched) None) tried self.old self.new) }
+        ensures { IfOk result (λ tried. (call : Asking) (begun : ℕ) (u : Option Change) → Tries (clerk.await (waiting_of no call begun) (outcome_of reply u touched) None) tried self.old self.new) }
     {
         self.answer_with(no, Answer::Reply(reply), None, touched.as_slice())
     }
@@ -77,7 +77,7 @@ impl Doing {
         touched: List<ObjId>,
         asked: &Asked,
     ) -> Result<Tried, NoMemory>
-        ensures { IfOk result (λ tried. (call : Asking) (u : Option Change) → Tries (clerk.await (call_of no call begun) (outcome_of reply u touched) (Some asked.now)) tried self.old self.new) }
+        ensures { IfOk result (λ tried. (call : Asking) (u : Option Change) → Tries (clerk.await (waiting_of no call begun) (outcome_of reply u touched) (Some asked.now)) tried self.old self.new) }
     {
         if is_owing(begun, self.ledger.log.first(*asked)) {
             self.ask_for(*asked)?;
@@ -94,7 +94,7 @@ impl Doing {
         touched: List<ObjId>,
         asked: &Option<Asked>,
     ) -> Result<Tried, NoMemory>
-        ensures { IfOk result (λ tried. (call : Asking) (u : Option Change) → Tries (clerk.await (call_of no call begun) (outcome_of reply u touched) asked.now) tried self.old self.new) }
+        ensures { IfOk result (λ tried. (call : Asking) (u : Option Change) → Tries (clerk.await (waiting_of no call begun) (outcome_of reply u touched) asked.now) tried self.old self.new) }
     {
         match asked {
             Some(asked) => self.settle_asked(no, begun, reply, touched, asked),
@@ -125,7 +125,7 @@ impl Doing {
         update: Update,
     ) -> Result<Tried, NoMemory>
         requires { clerk.suits update self.old.cache ≡ true }
-        ensures { IfOk result (λ tried. (call : Asking) (begun : ℕ) (u : Option Change) → Tries (clerk.issue (call_of no call begun) (outcome_of reply u touched) update) tried self.old self.new) }
+        ensures { IfOk result (λ tried. (call : Asking) (begun : ℕ) (u : Option Change) → Tries (clerk.issue (waiting_of no call begun) (outcome_of reply u touched) update) tried self.old self.new) }
     {
         let op = self.add_update(update)?;
         self.answer_with(no, Answer::Reply(reply), Some(op), touched.as_slice())
@@ -153,7 +153,7 @@ impl Doing {
         touched: List<ObjId>,
         update: Update,
     ) -> Result<Tried, NoMemory>
-        ensures { IfOk result (λ tried. (call : Asking) (begun : ℕ) (u : Option Change) → Tries (clerk.issue_if_room (call_of no call begun) (outcome_of reply u touched) update) tried self.old self.new) }
+        ensures { IfOk result (λ tried. (call : Asking) (begun : ℕ) (u : Option Change) → Tries (clerk.issue_if_room (waiting_of no call begun) (outcome_of reply u touched) update) tried self.old self.new) }
     {
         let has_room = self.has_room(&update);
         if let Ok(true) = has_room {
@@ -185,7 +185,7 @@ impl Doing {
 
     // The answer tells the lost operations, which aren't owed on these objects any more.
     fn report(&mut self, no: u64, ops: List<OpNo>, objs: &[ObjId]) -> Result<Tried, NoMemory>
-        ensures { IfOk result (λ tried. (call : Asking) (begun : ℕ) → Tries (clerk.try_verdict (call_of no call begun) (lost.Lost ops objs.now)) tried self.old self.new) }
+        ensures { IfOk result (λ tried. (call : Asking) (begun : ℕ) → Tries (clerk.try_verdict (waiting_of no call begun) (lost.Lost ops objs.now)) tried self.old self.new) }
     {
         self.ledger.owed.clear(objs);
         self.answer_with(no, Answer::Lost(ops), None, objs)

@@ -2,7 +2,7 @@
 ghost use Rattle.std.specs.Prelude.{◌≡◌, [], OnOk};
 ghost use Rattle.std.specs.List.{list_any};
 ghost use Rattle.ec_protocol.specs.Clerk as clerk;
-ghost use Rattle.ec_doing.specs.Seen.{clerk_of, Does};
+ghost use Rattle.ec_doing.specs.Seen.{clerk_with, Does};
 
 use crate::doing::Doing;
 use ec_base::{Hold, NoMemory, ObjId};
@@ -12,13 +12,13 @@ use ec_wire::Msg;
 impl Doing {
     /// Whether a want of this mode may go out.
     pub(crate) fn may_want(&self, obj: ObjId, hold: Hold) -> bool
-        ensures { result ≡ clerk.may_want obj hold (clerk_of [] self.now) }
+        ensures { result ≡ clerk.may_want obj hold (clerk_with [] self.now) }
     {
         self.session.is_some() && !self.under_recall(obj) && self.cache.mode(obj).is_below(&hold)
     }
 
     fn wanted(&self, obj: ObjId, hold: Hold) -> Wanted
-        ensures { result ≡ clerk.wanted obj hold (clerk_of [] self.now) }
+        ensures { result ≡ clerk.wanted obj hold (clerk_with [] self.now) }
     {
         Wanted {
             obj,
@@ -38,7 +38,7 @@ impl Doing {
     }
 
     fn was_sent(&self, wanted: Wanted) -> bool
-        ensures { result ≡ list_any (clerk.is_wanted wanted) (clerk_of [] self.now).wanted }
+        ensures { result ≡ list_any (clerk.is_wanted wanted) (clerk_with [] self.now).wanted }
     {
         self.wanted
             .iter()

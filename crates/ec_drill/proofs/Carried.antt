@@ -19,13 +19,13 @@ use Rattle.ec_drill.specs.Left.{EachLeft}
 use Rattle.ec_drill.specs.Fates.{AllRun, IsKnown}
 use Rattle.ec_drill.specs.Lines.{IsNothing}
 use Rattle.ec_base.specs.Outside.{Rose}
-use Rattle.ec_drill.specs.Steps.{Fares, IsSeen, going, Comes, Stays, IsLater, AreOfLine, IsSettling, IsCarrying, before_line, behind_some}
+use Rattle.ec_drill.specs.Steps.{Fares, IsSeen, going, ComesTo, StaysBut, IsLater, AreOfLine, IsSettling, IsCarrying, before_line, behind_some}
 use Rattle.ec_drill.proofs.Follows.{on_ok, if_ok, arms_go, arms_rest}
 use Rattle.ec_drill.proofs.Known.{known_first, known_later, told_if_known, one_fate, fate_before}
 use Rattle.ec_base.proofs.Numbers.{plus_none}
 
 -- what comes to the same
-pub comes_by : {X : Type 0} (r : Result X WorldFault) (m n : Moving) (w : World) (p : List Shown) → m ≡ n → Comes r n w p → Comes r m w p
+pub comes_by : {X : Type 0} (r : Result X WorldFault) (m n : Moving) (w : World) (p : List Shown) → m ≡ n → ComesTo r n w p → ComesTo r m w p
 comes_by (Ok x) m n w p e c = e ∙ c
 comes_by (Err g) m n w p e c = λ seen. e ∙ c seen
 
@@ -188,9 +188,9 @@ on_err (Ok x) P h = tt
 on_err (Err f) P h = h
 
 -- no more is delivered, and the line comes to this
-pub rested : {X : Type 0} (r : Result X WorldFault) (tells : Type 0) (now : View) (a b bound left : ℕ) (armed here : Option ℕ) (start w v : World) (before p q : List Shown) → Settling tells a b bound left armed here start w before p → left ≤ 0 → Comes r (settle 0 [] (going w p)) v q
+pub rested : {X : Type 0} (r : Result X WorldFault) (tells : Type 0) (now : View) (a b bound left : ℕ) (armed here : Option ℕ) (start w v : World) (before p q : List Shown) → Settling tells a b bound left armed here start w before p → left ≤ 0 → ComesTo r (settle 0 [] (going w p)) v q
     → (tells → EachLeft now (λ image. StandsFor image w.durable))
-    → (fates : Fates) × (AllRun fates ⊎ Rose a b) × (IsKnown tells a b → Comes r (settle bound fates (going start before)) v q) × OnErr r (tells → EachLeft now (IsSettling bound fates (going start before)))
+    → (fates : Fates) × (AllRun fates ⊎ Rose a b) × (IsKnown tells a b → ComesTo r (settle bound fates (going start before)) v q) × OnErr r (tells → EachLeft now (IsSettling bound fates (going start before)))
     × OnOk r (IsKnown tells a b → SettleArms bound fates (going start before) armed here)
 rested r tells now a b bound left armed here start w v before p q s none comes stands = (
   s.fates,
@@ -222,7 +222,7 @@ unsettled n w v p q s d is line shown =
     ∙ ap (λ x. going v (p ++ x ∷ [])) (sym line) ∙ ap (λ l. going v l) (sym shown)
 
 -- what holds anyhow holds behind any result
-pub stays : {X : Type 0} (r : Result X WorldFault) (P : Type 0) → P → Stays r P
+pub stays : {X : Type 0} (r : Result X WorldFault) (P : Type 0) → P → StaysBut r P
 stays (Ok x) P h = h
 stays (Err f) P h = λ seen. h
 
@@ -270,9 +270,9 @@ errs (Err f) P Q h to = to h
 
 pub line_settles : {X : Type 0} (tells : Type 0) (now : View) (old mid new : Counts) (k number : ℕ) (l : Line) (w v u : World) (p q : List Shown) (r : Result X WorldFault) (f : Fate) (fs : Fates)
     → old.stops ≤ mid.stops → mid.stops ≤ new.stops → Fares f old mid → (IsTold f tells → onward (going w []) (line_happens f number l w) ≡ going v p)
-    → AreOfLine fs mid new → (IsKnown tells mid.stops new.stops → Comes r (settle k fs (going v p)) u q) → OnErr r (tells → EachLeft now (IsSettling k fs (going v p)))
+    → AreOfLine fs mid new → (IsKnown tells mid.stops new.stops → ComesTo r (settle k fs (going v p)) u q) → OnErr r (tells → EachLeft now (IsSettling k fs (going v p)))
     → (IsTold f tells → ArmBy f w v (armed_at l old.armed) mid.armed) → OnOk r (IsKnown tells mid.stops new.stops → SettleArms k fs (going v p) mid.armed new.armed)
-    → (fates : Fates) × AreOfLine fates old new × (IsKnown tells old.stops new.stops → Comes r (carry_out k fates number l w) u q) × OnErr r (tells → EachLeft now (IsCarrying k fates number l w))
+    → (fates : Fates) × AreOfLine fates old new × (IsKnown tells old.stops new.stops → ComesTo r (carry_out k fates number l w) u q) × OnErr r (tells → EachLeft now (IsCarrying k fates number l w))
     × OnOk r (IsKnown tells old.stops new.stops → LineArms k fates number l w old.armed new.armed)
 line_settles tells now old mid new k number l w v u p q r f fs le later fate began are settles leaves by arms = (
   f ∷ fs,
@@ -315,8 +315,8 @@ told_by stops_with tells told = told
 -- a line's event, as a step of the world took it
 pub begun_by : {X : Type 0} (r : Result X WorldFault) (tells : Type 0) (now : View) (old new : Counts) (number : ℕ) (l : Line) (event : Event) (w v : World) (q p : List Shown) → q ≡ [] → ((fate : Fate) → line_happens fate number l w ≡ happen fate event w)
     → armed_by event old.armed ≡ armed_at l old.armed
-    → (fate : Fate) × Fares fate old new × (IsTold fate tells → Comes r (onward (going w q) (happen fate event w)) v p) × OnErr r (tells → EachLeft now (IsLeft w.durable (happen fate event w))) × OnOk r (IsTold fate tells → ArmBy fate w v (armed_by event old.armed) new.armed)
-    → (fate : Fate) × Fares fate old new × (IsTold fate tells → Comes r (onward (going w []) (line_happens fate number l w)) v p) × OnErr r (tells → EachLeft now (IsLeft w.durable (line_happens fate number l w))) × OnOk r (IsTold fate tells → ArmBy fate w v (armed_at l old.armed) new.armed)
+    → (fate : Fate) × Fares fate old new × (IsTold fate tells → ComesTo r (onward (going w q) (happen fate event w)) v p) × OnErr r (tells → EachLeft now (IsLeft w.durable (happen fate event w))) × OnOk r (IsTold fate tells → ArmBy fate w v (armed_by event old.armed) new.armed)
+    → (fate : Fate) × Fares fate old new × (IsTold fate tells → ComesTo r (onward (going w []) (line_happens fate number l w)) v p) × OnErr r (tells → EachLeft now (IsLeft w.durable (line_happens fate number l w))) × OnOk r (IsTold fate tells → ArmBy fate w v (armed_at l old.armed) new.armed)
 begun_by r tells now old new number l event w v q p none same here s = (
   s.0,
   s.1,

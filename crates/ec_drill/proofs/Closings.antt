@@ -17,7 +17,7 @@ use Rattle.ec_base.specs.Outside.{Rose}
 use Rattle.ec_disk.specs.Disk.{View, Counts}
 use Rattle.ec_stands.specs.Stands.{StandsFor}
 use Rattle.ec_world.specs.Steps.{IsShown}
-use Rattle.ec_world.specs.StepEnds.{FateOf, IsTold, Refuses, IsLeft, as_before, as_behind}
+use Rattle.ec_world.specs.StepEnds.{FateOf, IsTold, RefusesEvent, IsLeft, as_before, as_behind}
 use Rattle.ec_drill.specs.ExitCodes.{code}
 use Rattle.ec_drill.specs.Left.{EachLeft}
 use Rattle.ec_drill.specs.Steps.{going, IsCause, CutText, CutLines}
@@ -169,12 +169,12 @@ disarmed_rose old mid new is rose = subst (λ (c : Counts). Rose c.faults new.fa
 
 -- the restart isn't carried out
 pub comes_down : (tells : Type 0) (seen : View) (r : Result OwnEnding Cut) (f : WorldFault) (w v : World) (e : Ending) (P : Type 0) (held : Option (List ℕ)) (writes faults faults_after : ℕ) → r ≡ restart_end f → is_spent e ≡ false → is_none w.server ≡ true
-    → Refuses f (happen runs event.Restart w) w v P → (f ≡ fault.DiskFailed → Rose faults faults_after) → (tells → EachLeft seen (IsLeft w.durable (happen runs event.Restart w)))
+    → RefusesEvent f (happen runs event.Restart w) w v P → (f ≡ fault.DiskFailed → Rose faults faults_after) → (tells → EachLeft seen (IsLeft w.durable (happen runs event.Restart w)))
     → MatchResult r (λ end. Restarted w v e (machine_ending end) held held) (λ c. RestartedInPart tells seen w e c held held writes writes faults faults_after)
 comes_down tells seen r f w v e P held writes faults faults_after is s off refused failed leaves =
     subst (λ (x : Result OwnEnding Cut). MatchResult x (λ end. Restarted w v e (machine_ending end) held held) (λ c. RestartedInPart tells seen w e c held held writes writes faults faults_after)) (sym is) (by f refused failed)
   where
-    by : (f : WorldFault) → Refuses f (happen runs event.Restart w) w v P → (f ≡ fault.DiskFailed → Rose faults faults_after) → MatchResult (restart_end f) (λ end. Restarted w v e (machine_ending end) held held) (λ c. RestartedInPart tells seen w e c held held writes writes faults faults_after)
+    by : (f : WorldFault) → RefusesEvent f (happen runs event.Restart w) w v P → (f ≡ fault.DiskFailed → Rose faults faults_after) → MatchResult (restart_end f) (λ end. Restarted w v e (machine_ending end) held held) (λ c. RestartedInPart tells seen w e c held held writes writes faults faults_after)
     by (fault.Spent n) refused failed = subst (λ (u : World). Restarted w u e (IsSpent n) held held) (sym refused.1) (comes_not w e n held s off refused.0)
     by fault.DiskFailed refused failed = cut_before tells seen w e cut.Disk held writes writes faults faults_after s off leaves (failed refl, refl)
     by (fault.BadDisk place) refused failed = absurd refused

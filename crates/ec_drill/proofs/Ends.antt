@@ -19,7 +19,7 @@ use Rattle.ec_world.specs.Laws.{in_step_stands}
 use Rattle.ec_world.specs.Steps.{Opens}
 use Rattle.ec_world.specs.StepEnds.{Unopened}
 use Rattle.ec_world.specs.Worlds.{view_of, IsInStep}
-use Rattle.ec_drill.specs.Cuts.{IsFront}
+use Rattle.ec_drill.specs.Cuts.{IsCutFront}
 use Rattle.ec_drill.specs.Arms.{RunArms, any_arm}
 use Rattle.ec_drill.specs.ArmedSteps.{heard}
 use Rattle.ec_drill.specs.Fates.{IsKnown}
@@ -201,7 +201,7 @@ module _ (most : ℕ) (reads : List Read) (state : Durable) (start : World) (w :
 
 -- Nothing was carried out.
 
-refused_part : (w : Outside) (line : Shown) → Unbegun w line → (last : List ℕ) → (last ≡ []) ⊎ IsFront (shown_text line) last → Appends w.held w.held_after last → RefusedInPart w
+refused_part : (w : Outside) (line : Shown) → Unbegun w line → (last : List ℕ) → (last ≡ []) ⊎ IsCutFront (shown_text line) last → Appends w.held w.held_after last → RefusedInPart w
 refused_part w line why last part bytes = record { line = line; why = why; last = last; part = part; bytes = bytes }
 
 pub refused : (most : ℕ) (w : Outside) (line : Shown) (st result : Status) → Unbegun w line → (Appends w.held w.held_after (shown_text line) → Drilled most st w) → RefusedWith line st result w.held w.held_after w.writes w.writes_after → Drilled most result w
@@ -215,7 +215,7 @@ refused most w line st result why told (inr (cut.NoMemory, is, text)) = subst (�
 spent_opens : (n : Counter) (v : World) → ◌≡◌ {A = Result World Counter} (Err n) (Ok v) → ⊥
 spent_opens n v e = cc
 
-spent_part : (most : ℕ) (reads : List Read) (state : Durable) (n : Counter) (w : Outside) → IsGiven w reads → Opens w.tells w.disk.gives most state → open_world state ≡ Err n → (w.tells → HoldsState w.disk_after state) → (last : List ℕ) → (last ≡ []) ⊎ IsFront (shown_text (Spent n)) last → Appends w.held w.held_after last → RanInPart most w last
+spent_part : (most : ℕ) (reads : List Read) (state : Durable) (n : Counter) (w : Outside) → IsGiven w reads → Opens w.tells w.disk.gives most state → open_world state ≡ Err n → (w.tells → HoldsState w.disk_after state) → (last : List ℕ) → (last ≡ []) ⊎ IsCutFront (shown_text (Spent n)) last → Appends w.held w.held_after last → RanInPart most w last
 spent_part most reads state n w given opens e stands last part bytes = record {
   reads = reads;
   given = given;

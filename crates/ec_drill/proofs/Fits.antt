@@ -18,7 +18,7 @@ use Rattle.ec_drill.specs.Arms.{LineArms}
 use Rattle.ec_drill.specs.Closing.{ran_to}
 use Rattle.ec_drill.specs.Fates.{IsKnown}
 use Rattle.ec_drill.specs.Left.{EachLeft}
-use Rattle.ec_drill.specs.Steps.{going, behind, Comes, Stays, IsLater, AreOfLine, IsCarrying, before_line, behind_some, IsInLine, none_shown, some_shown, CutLines, IsCause, LineEnds, LineFollows, LineDone, LineCut, line_end, PendingEnd, ending_of}
+use Rattle.ec_drill.specs.Steps.{going, behind_pieces, ComesTo, StaysBut, IsLater, AreOfLine, IsCarrying, before_line, behind_some, IsInLine, none_shown, some_shown, CutLines, IsCause, LineEnds, LineFollows, LineDone, LineCut, line_end, PendingEnd, ending_of}
 use Rattle.ec_drill.specs.declared.running.Ending.{Ending}
 use Rattle.ec_drill.specs.declared.writing.Cut.{Cut}
 use Rattle.ec_drill.proofs.Follows.{arms_fail, arms_end}
@@ -29,7 +29,7 @@ use Rattle.ec_drill.proofs.Runs.{line_goes, line_piles, line_fails, line_shows}
 -- what carrying out a line that came to this result is, by its steps
 abbrev pub Carried : {X : Type 0} → Result X WorldFault → Type 0 → Counts → Counts → View → ℕ → ℕ → Line → World → World → List Shown → Type 0
 Carried r tells old new seen k number l w v piece =
-    (fates : Fates) × AreOfLine fates old new × (IsKnown tells old.stops new.stops → Comes r (carry_out k fates number l w) v piece) × OnErr r (tells → EachLeft seen (IsCarrying k fates number l w))
+    (fates : Fates) × AreOfLine fates old new × (IsKnown tells old.stops new.stops → ComesTo r (carry_out k fates number l w) v piece) × OnErr r (tells → EachLeft seen (IsCarrying k fates number l w))
     × OnOk r (IsKnown tells old.stops new.stops → LineArms k fates number l w old.armed new.armed)
 
 ok_not : {X Y : Type 0} (x : X) (y : Y) → Ok x ≡ Err y → ⊥
@@ -79,7 +79,7 @@ line_lost r tells old new seen k number column l w v piece c held writes did lat
 }
 
 -- the piece of a line that came to an end of its own
-came_to : {X : Type 0} (r : Result X WorldFault) (number column : ℕ) (e : Option Ending) (m : Moving) (v : World) (piece : List Shown) → line_end r number column ≡ Ok e → Comes r m v piece → m.shown ≡ piece
+came_to : {X : Type 0} (r : Result X WorldFault) (number column : ℕ) (e : Option Ending) (m : Moving) (v : World) (piece : List Shown) → line_end r number column ≡ Ok e → ComesTo r m v piece → m.shown ≡ piece
 came_to (Ok x) number column e m v piece is comes = ap (λ (n : Moving). n.shown) comes
 came_to (Err (fault.Spent n)) number column e m v piece is comes = ap (λ (n : Moving). n.shown) (comes tt)
 came_to (Err fault.NoSuchOp) number column e m v piece is comes = ap (λ (n : Moving). n.shown) (comes tt)
@@ -88,7 +88,7 @@ came_to (Err fault.DiskFailed) number column e m v piece is comes = absurd (err_
 came_to (Err (fault.BadDisk p)) number column e m v piece is comes = absurd (err_not _ _ is)
 came_to (Err fault.NoMemory) number column e m v piece is comes = absurd (err_not _ _ is)
 
-came_world : {X : Type 0} (r : Result X WorldFault) (number column : ℕ) (e : Option Ending) (m : Moving) (v : World) (piece : List Shown) → line_end r number column ≡ Ok e → Comes r m v piece → m.world ≡ v
+came_world : {X : Type 0} (r : Result X WorldFault) (number column : ℕ) (e : Option Ending) (m : Moving) (v : World) (piece : List Shown) → line_end r number column ≡ Ok e → ComesTo r m v piece → m.world ≡ v
 came_world (Ok x) number column e m v piece is comes = ap (λ (n : Moving). n.world) comes
 came_world (Err (fault.Spent n)) number column e m v piece is comes = ap (λ (n : Moving). n.world) (comes tt)
 came_world (Err fault.NoSuchOp) number column e m v piece is comes = ap (λ (n : Moving). n.world) (comes tt)
@@ -98,7 +98,7 @@ came_world (Err (fault.BadDisk p)) number column e m v piece is comes = absurd (
 came_world (Err fault.NoMemory) number column e m v piece is comes = absurd (err_not _ _ is)
 
 -- what holds behind such a line
-pub came_stays : {X : Type 0} (r : Result X WorldFault) (number column : ℕ) (e : Option Ending) (P : Type 0) → line_end r number column ≡ Ok e → Stays r P → P
+pub came_stays : {X : Type 0} (r : Result X WorldFault) (number column : ℕ) (e : Option Ending) (P : Type 0) → line_end r number column ≡ Ok e → StaysBut r P → P
 came_stays (Ok x) number column e P is h = h
 came_stays (Err (fault.Spent n)) number column e P is h = h tt
 came_stays (Err fault.NoSuchOp) number column e P is h = h tt
@@ -137,7 +137,7 @@ some_not None is s = cc
 some_not (Some e) is s = cc
 
 -- the line ends the run, by a fault of the machine
-ends_by : {X : Type 0} (r : Result X WorldFault) (k number column : ℕ) (l : Line) (w v : World) (piece : List Shown) (fates : Fates) (e : Option Ending) → Comes r (carry_out k fates number l w) v piece → line_end r number column ≡ Ok e → is_some e ≡ true
+ends_by : {X : Type 0} (r : Result X WorldFault) (k number column : ℕ) (l : Line) (w v : World) (piece : List Shown) (fates : Fates) (e : Option Ending) → ComesTo r (carry_out k fates number l w) v piece → line_end r number column ≡ Ok e → is_some e ≡ true
     → (ahead : List Read) → LineEnds e k number (reads l column) ahead fates w v piece
 ends_by (Ok x) k number column l w v piece fates e comes is some ahead = absurd (some_not e (ok_is _ _ is) some)
 ends_by (Err (fault.Spent n)) k number column l w v piece fates e comes is some ahead = subst (λ (x : Option Ending). LineEnds x k number (reads l column) ahead fates w v piece) (ok_is _ _ is) (λ more. line_fails k number column l ahead fates more w v piece (fault.Spent n) (comes tt))
@@ -148,7 +148,7 @@ ends_by (Err (fault.BadDisk p)) k number column l w v piece fates e comes is som
 ends_by (Err fault.NoMemory) k number column l w v piece fates e comes is some ahead = absurd (err_not _ _ is)
 
 -- so nothing is said of its stops
-follows_by : {X : Type 0} (r : Result X WorldFault) (k number column : ℕ) (l : Line) (w v : World) (piece : List Shown) (fates : Fates) (e : Option Ending) (old new : Option ℕ) → Comes r (carry_out k fates number l w) v piece → line_end r number column ≡ Ok e → is_some e ≡ true
+follows_by : {X : Type 0} (r : Result X WorldFault) (k number column : ℕ) (l : Line) (w v : World) (piece : List Shown) (fates : Fates) (e : Option Ending) (old new : Option ℕ) → ComesTo r (carry_out k fates number l w) v piece → line_end r number column ≡ Ok e → is_some e ≡ true
     → LineFollows e k number (reads l column) fates w v old new
 follows_by (Ok x) k number column l w v piece fates e old new comes is some = absurd (some_not e (ok_is _ _ is) some)
 follows_by (Err (fault.Spent n)) k number column l w v piece fates e old new comes is some =
@@ -176,7 +176,7 @@ not_none : (a : Ending) (e : Option Ending) → Some a ≡ e → is_some e ≡ f
 not_none a None is s = cc
 not_none a (Some e) is s = cc
 
-none_not : {X : Type 0} (r : Result X WorldFault) (number column : ℕ) (e : Option Ending) (m : Moving) (v : World) (piece : List Shown) → Comes r m v piece → line_end r number column ≡ Ok e → is_some e ≡ false → m ≡ going v piece
+none_not : {X : Type 0} (r : Result X WorldFault) (number column : ℕ) (e : Option Ending) (m : Moving) (v : World) (piece : List Shown) → ComesTo r m v piece → line_end r number column ≡ Ok e → is_some e ≡ false → m ≡ going v piece
 none_not (Ok x) number column e m v piece comes is none = comes
 none_not (Err (fault.Spent n)) number column e m v piece comes is none = absurd (not_none _ e (ok_is _ _ is) none)
 none_not (Err fault.NoSuchOp) number column e m v piece comes is none = absurd (not_none _ e (ok_is _ _ is) none)
@@ -197,7 +197,7 @@ carried_out (Err fault.NoMemory) number column e P is none h = absurd (err_not _
 -- the messages that are left pending decide
 goes_by : (p : Option Ending) (k number column : ℕ) (l : Line) (w v u : World) (piece : List Shown) (fates : Fates) → carry_out k fates number l w ≡ going v piece → PendingEnd p v u → (ahead : List Read) → LineEnds p k number (reads l column) ahead fates w u piece
 goes_by None k number column l w v u piece fates is end ahead = λ more.
-    line_goes k number column l ahead fates more w v piece is end.0 ∙ ap (λ (x : World). behind (piece ∷ []) (run_from k (number + 1) ahead more x)) (sym end.1)
+    line_goes k number column l ahead fates more w v piece is end.0 ∙ ap (λ (x : World). behind_pieces (piece ∷ []) (run_from k (number + 1) ahead more x)) (sym end.1)
 goes_by (Some e) k number column l w v u piece fates is end ahead = λ more.
     line_piles k number column l ahead fates more w v piece is end.0
     ∙ ap (λ (x : World). ran_to x (machine.TooMany (pending v)) (piece ∷ [])) (sym end.2)

@@ -6,10 +6,10 @@ use Rattle.ec_protocol.specs.Drill.{onward}
 use Rattle.ec_protocol.specs.declared.world.World.{World}
 use Rattle.ec_protocol.specs.declared.world.WorldFault.{WorldFault}
 use Rattle.ec_protocol.specs.declared.world.WorldFault.TheVariants as fault
-use Rattle.ec_world.specs.StepEnds.{Refuses}
+use Rattle.ec_world.specs.StepEnds.{RefusesEvent}
 use Rattle.ec_drill.specs.Steps.{IsSeen, going}
 
-pub refused_stays : (g : WorldFault) (m : Moving) (w v : World) (P : Type 0) → Refuses g m w v P → IsSeen g → P
+pub refused_stays : (g : WorldFault) (m : Moving) (w v : World) (P : Type 0) → RefusesEvent g m w v P → IsSeen g → P
 refused_stays (fault.BadDisk n) m w v P h seen = absurd seen
 refused_stays fault.DiskFailed m w v P h seen = absurd seen
 refused_stays (fault.Spent n) m w v P h seen = h.2
@@ -23,7 +23,7 @@ onward_fault m w v p f is same =
     ∙ ap (λ (u : World). record (going u p) { fault = Some f }) (sym same)
 
 -- a step that the machine doesn't take either
-pub refused_comes : (f : WorldFault) (m : Moving) (w v : World) (p : List Shown) (P : Type 0) → Refuses f m w v P → IsSeen f → onward (going w p) m ≡ record (going v p) { fault = Some f }
+pub refused_comes : (f : WorldFault) (m : Moving) (w v : World) (p : List Shown) (P : Type 0) → RefusesEvent f m w v P → IsSeen f → onward (going w p) m ≡ record (going v p) { fault = Some f }
 refused_comes (fault.BadDisk n) m w v p P h seen = absurd seen
 refused_comes fault.DiskFailed m w v p P h seen = absurd seen
 refused_comes (fault.Spent n) m w v p P h seen = onward_fault m w v p (fault.Spent n) h.0 h.1

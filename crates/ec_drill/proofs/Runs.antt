@@ -13,7 +13,7 @@ use Rattle.ec_text.specs.Lines.{text_of}
 use Rattle.ec_drill.specs.Arms.{RunArms}
 use Rattle.ec_drill.specs.Fates.{IsKnown}
 use Rattle.ec_drill.specs.Left.{fates_behind, behind_lines, in_line, IsOfMoment}
-use Rattle.ec_drill.specs.Steps.{going, behind, Sofar, Ended, IsCause, IsInLine, none_shown, some_shown, CutOff, LineDone, LineCut, ending_of}
+use Rattle.ec_drill.specs.Steps.{going, behind_pieces, Sofar, Ended, IsCause, IsInLine, none_shown, some_shown, CutOff, LineDone, LineCut, ending_of}
 use Rattle.ec_drill.specs.declared.running.Ending.{Ending}
 use Rattle.ec_drill.specs.declared.running.Ending.TheVariants as ending
 use Rattle.ec_drill.specs.declared.writing.Cut.{Cut}
@@ -39,7 +39,7 @@ by_line : (k number col : ℕ) (l : Line) (ls : List Read) (fates : Fates) (more
 unfolding behind_line
 by_line k number col l ls fates more w m e = ap (behind_line k number col ls more) e
 
-pub line_goes : (k number col : ℕ) (l : Line) (ls : List Read) (fates : Fates) (more : List Fates) (w v : World) (piece : List Shown) → carry_out k fates number l w ≡ going v piece → pending v ≤ max_pending → run_from k number (reads l col ∷ ls) (fates ∷ more) w ≡ behind (piece ∷ []) (run_from k (number + 1) ls more (forget v))
+pub line_goes : (k number col : ℕ) (l : Line) (ls : List Read) (fates : Fates) (more : List Fates) (w v : World) (piece : List Shown) → carry_out k fates number l w ≡ going v piece → pending v ≤ max_pending → run_from k number (reads l col ∷ ls) (fates ∷ more) w ≡ behind_pieces (piece ∷ []) (run_from k (number + 1) ls more (forget v))
 unfolding behind_line
 line_goes k number col l ls fates more w v piece e few =
     by_line k number col l ls fates more w (going v piece) e
@@ -94,7 +94,7 @@ line_unfit tells old k number col w held = record {
 
 -- A run so far.
 
-behind-two : (ps qs : List (List Shown)) (r : Ran) → behind ps (behind qs r) ≡ behind (ps ++ qs) r
+behind-two : (ps qs : List (List Shown)) (r : Ran) → behind_pieces ps (behind_pieces qs r) ≡ behind_pieces (ps ++ qs) r
 behind-two ps qs r = ap (λ l. record r { pieces = l }) (sym (append_assoc ps qs r.pieces))
 
 pub sofar : (tells : Type 0) (a k : ℕ) (armed : Option ℕ) (all : List Read) (start : World) (held : Option (List ℕ)) → Sofar tells a a k armed armed all start 1 all start held held
@@ -117,7 +117,7 @@ fates-here fs f n is = ap first_fates (drop-front fs (f ∷ []) n is)
 
 -- the run over all lines
 pub all_run : (tells : Type 0) (a b k : ℕ) (armed here : Option ℕ) (all : List Read) (start : World) (number : ℕ) (ahead : List Read) (w : World) (held mid : Option (List ℕ)) (s : Sofar tells a b k armed here all start number ahead w held mid) → IsKnown tells a b
-    → (more : List Fates) → run_from k 1 all (s.fates ++ more) start ≡ behind s.pieces (run_from k number ahead more w)
+    → (more : List Fates) → run_from k 1 all (s.fates ++ more) start ≡ behind_pieces s.pieces (run_from k number ahead more w)
 all_run tells a b k armed here all start number ahead w held mid s known more = ap (λ ls. run_from k 1 ls (s.fates ++ more) start) (sym s.split) ∙ s.run known ahead more
 
 -- the one over those that were carried out
@@ -133,11 +133,11 @@ module _ (tells : Type 0) (a b : ℕ) (old new : Counts) (k : ℕ) (armed : Opti
   inside : IsKnown tells a new.stops → IsKnown tells old.stops new.stops
   inside known = known_later tells a old.stops new.stops (subst (λ (n : ℕ). a ≤ n) (sym here) from) known
 
-  to_line : (fates : Fates) (more : List Fates) → IsKnown tells a new.stops → run_from k 1 all ((s.fates ++ fates ∷ []) ++ more) start ≡ behind s.pieces (run_from k number (r ∷ ahead) (fates ∷ more) w)
+  to_line : (fates : Fates) (more : List Fates) → IsKnown tells a new.stops → run_from k 1 all ((s.fates ++ fates ∷ []) ++ more) start ≡ behind_pieces s.pieces (run_from k number (r ∷ ahead) (fates ∷ more) w)
   to_line fates more known = ap (λ fs. run_from k 1 all fs start) (append_assoc s.fates (fates ∷ []) more) ∙ all_run tells a b k armed old.armed all start number (r ∷ ahead) w held mid s (before known) (fates ∷ more)
 
   -- the lines that are carried out, with this one, before any others
-  on_line : (fates : Fates) (others : List Read) (more : List Fates) → IsKnown tells a new.stops → run_from k 1 ((s.done ++ r ∷ []) ++ others) ((s.fates ++ fates ∷ []) ++ more) start ≡ behind s.pieces (run_from k number (r ∷ others) (fates ∷ more) w)
+  on_line : (fates : Fates) (others : List Read) (more : List Fates) → IsKnown tells a new.stops → run_from k 1 ((s.done ++ r ∷ []) ++ others) ((s.fates ++ fates ∷ []) ++ more) start ≡ behind_pieces s.pieces (run_from k number (r ∷ others) (fates ∷ more) w)
   on_line fates others more known =
       ap (λ ls. run_from k 1 ls ((s.fates ++ fates ∷ []) ++ more) start) (append_assoc s.done (r ∷ []) others)
       ∙ ap (λ fs. run_from k 1 (s.done ++ r ∷ others) fs start) (append_assoc s.fates (fates ∷ []) more)
@@ -160,7 +160,7 @@ module _ (tells : Type 0) (a b : ℕ) (old new : Counts) (k : ℕ) (armed : Opti
     are = one_line s.fates did.fates a b old new here from later s.are did.are;
     pieces = s.pieces ++ did.piece ∷ [];
     run = λ known others more.
-        on_line did.fates others more known ∙ ap (behind s.pieces) (did.run (inside known) others more)
+        on_line did.fates others more known ∙ ap (behind_pieces s.pieces) (did.run (inside known) others more)
         ∙ behind-two s.pieces (did.piece ∷ []) (run_from k (number + 1) others more v);
     arms = λ known others more rest.
         subst (λ (ls : List Read). RunArms k 1 ls ((s.fates ++ did.fates ∷ []) ++ more) start armed) (sym (append_assoc s.done (r ∷ []) others))
@@ -176,7 +176,7 @@ module _ (tells : Type 0) (a b : ℕ) (old new : Counts) (k : ℕ) (armed : Opti
     are = one_line s.fates did.fates a b old new here from later s.are did.are;
     pieces = s.pieces ++ did.piece ∷ [];
     run = λ known.
-        ap (λ fs. run_from k 1 all fs start) (sym (append-nil (s.fates ++ did.fates ∷ []))) ∙ to_line did.fates [] known ∙ ap (behind s.pieces) (did.run (inside known) ahead []);
+        ap (λ fs. run_from k 1 all fs start) (sym (append-nil (s.fates ++ did.fates ∷ []))) ∙ to_line did.fates [] known ∙ ap (behind_pieces s.pieces) (did.run (inside known) ahead []);
     arms = λ known. subst (λ (ls : List Read). RunArms k 1 ls (s.fates ++ did.fates ∷ []) start armed) s.split (s.arms (before known) (r ∷ ahead) (did.fates ∷ []) (did.arms (inside known) ahead []));
     bytes = appends_two held mid now _ _ _ s.bytes did.bytes (sym (text_of-append (joined s.pieces) did.piece) ∙ ap text_of (sym (joined-push s.pieces did.piece)));
   }

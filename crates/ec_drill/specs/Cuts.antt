@@ -4,7 +4,7 @@ use Rattle.ec_history.specs.declared.shown.Shown.{Shown}
 use Rattle.ec_text.specs.Lines.{shown_text}
 
 -- a front of the text, not the whole
-pub record IsFront (text front : List ℕ) : Type 0 where
+pub record IsCutFront (text front : List ℕ) : Type 0 where
   pub count : ℕ
   pub short : count < length text
   pub is : front ≡ take count text
@@ -12,4 +12,4 @@ pub record IsFront (text front : List ℕ) : Type 0 where
 -- a part of the first of these lines, not the whole
 abbrev pub IsPartOf : List Shown → List ℕ → Type 0
 IsPartOf [] last = last ≡ []
-IsPartOf (s ∷ ss) last = (last ≡ []) ⊎ IsFront (shown_text s) last
+IsPartOf (s ∷ ss) last = (last ≡ []) ⊎ IsCutFront (shown_text s) last

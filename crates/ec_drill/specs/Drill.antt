@@ -19,7 +19,7 @@ use Rattle.ec_drill.specs.Limits.{most_bytes, most_lines}
 use Rattle.ec_drill.specs.Script.{AreRead}
 use Rattle.ec_drill.specs.Arms.{RunArms, any_arm}
 use Rattle.ec_drill.specs.Fates.{EachRuns, IsKnown}
-use Rattle.ec_drill.specs.Cuts.{IsFront, IsPartOf}
+use Rattle.ec_drill.specs.Cuts.{IsCutFront, IsPartOf}
 use Rattle.ec_drill.specs.Left.{LeavesOf}
 use Rattle.ec_drill.specs.declared.status.Status.{Status}
 use Rattle.ec_drill.specs.declared.status.Status.TheVariants as status
@@ -141,7 +141,7 @@ pub record RefusedInPart (w : Outside) : Type 0 where
   pub line : Shown
   pub why : Unbegun w line
   pub last : List ℕ
-  pub part : (last ≡ []) ⊎ IsFront (shown_text line) last
+  pub part : (last ≡ []) ⊎ IsCutFront (shown_text line) last
   pub bytes : Appends w.held w.held_after last
 
 -- the line that tells a limit or a bad disk was written

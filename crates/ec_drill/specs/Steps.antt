@@ -17,7 +17,7 @@ use Rattle.ec_world.specs.StepEnds.{HasStopped}
 use Rattle.ec_drill.specs.Arms.{RunArms}
 use Rattle.ec_drill.specs.Fates.{AllRun, IsKnown}
 use Rattle.ec_drill.specs.RunFates.{AreOf}
-use Rattle.ec_drill.specs.Cuts.{IsFront, IsPartOf}
+use Rattle.ec_drill.specs.Cuts.{IsCutFront, IsPartOf}
 use Rattle.ec_drill.specs.Left.{EachLeft, IsOfMoment}
 use Rattle.ec_drill.specs.declared.writing.Cut.{Cut}
 use Rattle.ec_drill.specs.declared.writing.Cut.TheVariants as cut
@@ -40,14 +40,14 @@ abbrev pub going : World → List Shown → Moving
 going w shown = record { world = w; shown = shown; fault = None }
 
 -- What the machine does comes to this world, these lines and this fault.
-abbrev pub Comes : {X : Type 0} → Result X WorldFault → Moving → World → List Shown → Type 0
-Comes (Ok x) m w shown = m ≡ going w shown
-Comes (Err f) m w shown = IsSeen f → m ≡ record (going w shown) { fault = Some f }
+abbrev pub ComesTo : {X : Type 0} → Result X WorldFault → Moving → World → List Shown → Type 0
+ComesTo (Ok x) m w shown = m ≡ going w shown
+ComesTo (Err f) m w shown = IsSeen f → m ≡ record (going w shown) { fault = Some f }
 
 -- a fact that holds but behind a fault which the machine doesn't have
-abbrev pub Stays : {X : Type 0} → Result X WorldFault → Type 0 → Type 0
-Stays (Ok x) P = P
-Stays (Err f) P = IsSeen f → P
+abbrev pub StaysBut : {X : Type 0} → Result X WorldFault → Type 0 → Type 0
+StaysBut (Ok x) P = P
+StaysBut (Err f) P = IsSeen f → P
 
 -- Counts don't fall, and faults rose where a call answers so. What stops a disk doesn't fail it.
 pub record IsLater (old new : Counts) (Failing : Type 0) : Type 0 where
@@ -89,8 +89,8 @@ pub data IsInLine (k number : ℕ) (r : Read) (w : World) (fates : Fates) (writt
 -- why no more of this text was written than these bytes
 abbrev pub CutBy : Cut → List ℕ → List ℕ → ℕ → ℕ → Type 0
 CutBy cut.Disk text last before now = ⊥
-CutBy cut.Sink text last before now = Rose before now × IsFront text last
-CutBy cut.NoMemory text last before now = (last ≡ []) ⊎ IsFront text last
+CutBy cut.Sink text last before now = Rose before now × IsCutFront text last
+CutBy cut.NoMemory text last before now = (last ≡ []) ⊎ IsCutFront text last
 
 pub record CutText (c : Cut) (text : List ℕ) (held now : Option (List ℕ)) (before later : ℕ) : Type 0 where
   pub last : List ℕ
@@ -117,8 +117,8 @@ ending_of (ending.TooMany n) = machine.TooMany n
 ending_of (ending.Spent n) = machine.IsSpent n
 
 -- these pieces before those of a run
-abbrev pub behind : List (List Shown) → Ran → Ran
-behind pieces r = record r { pieces = pieces ++ r.pieces }
+abbrev pub behind_pieces : List (List Shown) → Ran → Ran
+behind_pieces pieces r = record r { pieces = pieces ++ r.pieces }
 
 -- The lines of a run that are still ahead, from this number on, and what was done and written before. Any other lines could be ahead too.
 pub record Sofar (tells : Type 0) (before now k : ℕ) (armed here : Option ℕ) (all : List Read) (start : World) (number : ℕ) (ahead : List Read) (w : World) (held mid : Option (List ℕ)) : Type 0 where
@@ -129,7 +129,7 @@ pub record Sofar (tells : Type 0) (before now k : ℕ) (armed here : Option ℕ)
   pub each : length fates ≡ length done
   pub are : AreOf fates before now
   pub pieces : List (List Shown)
-  pub run : IsKnown tells before now → (others : List Read) (more : List Fates) → run_from k 1 (done ++ others) (fates ++ more) start ≡ behind pieces (run_from k number others more w)
+  pub run : IsKnown tells before now → (others : List Read) (more : List Fates) → run_from k 1 (done ++ others) (fates ++ more) start ≡ behind_pieces pieces (run_from k number others more w)
   pub arms : IsKnown tells before now → (others : List Read) (more : List Fates) → RunArms k number others more w here → RunArms k 1 (done ++ others) (fates ++ more) start armed
   pub bytes : Appends held mid (text_of (joined pieces))
 
@@ -176,7 +176,7 @@ pub record CutOff (tells : Type 0) (before now : ℕ) (seen : View) (k : ℕ) (a
 
 -- The machine goes on behind a line, or its run ends there.
 abbrev pub LineEnds : Option Ending → ℕ → ℕ → Read → List Read → Fates → World → World → List Shown → Type 0
-LineEnds None k number r ahead fates w v piece = (more : List Fates) → run_from k number (r ∷ ahead) (fates ∷ more) w ≡ behind (piece ∷ []) (run_from k (number + 1) ahead more v)
+LineEnds None k number r ahead fates w v piece = (more : List Fates) → run_from k number (r ∷ ahead) (fates ∷ more) w ≡ behind_pieces (piece ∷ []) (run_from k (number + 1) ahead more v)
 LineEnds (Some e) k number r ahead fates w v piece = (more : List Fates) → run_from k number (r ∷ ahead) (fates ∷ more) w ≡ record { world = v; pieces = piece ∷ []; ending = ending_of e }
 
 -- The stops of the lines from this one on follow the arms, where those of the lines behind it do.

@@ -3,14 +3,14 @@ ghost use Rattle.std.specs.Prelude.{◌≡◌, ◌⊎◌, ◌++◌, [], ◌∷�
 ghost use Rattle.ec_protocol.specs.World.{Fate, happen};
 ghost use Rattle.ec_protocol.specs.Drill.{Fates, onward, line_happens, settle, carry_out};
 ghost use Rattle.ec_protocol.specs.declared.world.WorldFault.TheVariants as fault;
-ghost use Rattle.ec_world.specs.Worlds.{view_of, IsInStep, Keeps};
+ghost use Rattle.ec_world.specs.Worlds.{view_of, IsInStep, KeepsServer};
 ghost use Rattle.ec_world.specs.StepEnds.{IsTold, IsLeft, armed_by};
 ghost use Rattle.ec_drill.specs.Script.{machine_line};
 ghost use Rattle.ec_drill.specs.Arms.{ArmBy, SettleArms, LineArms, armed_at, is_arm};
 ghost use Rattle.ec_drill.specs.ArmedSteps.{IsCalm, heard, is_arming};
 ghost use Rattle.ec_drill.specs.Fates.{IsKnown};
 ghost use Rattle.ec_drill.specs.Left.{EachLeft};
-ghost use Rattle.ec_drill.specs.Steps.{going, Comes, Stays, IsLater, Fares, AreOfLine, IsSettling, IsCarrying};
+ghost use Rattle.ec_drill.specs.Steps.{going, ComesTo, StaysBut, IsLater, Fares, AreOfLine, IsSettling, IsCarrying};
 
 use crate::event::event_of;
 use ec_base::NoMemory;
@@ -36,11 +36,11 @@ pub(crate) fn carry_out<D: CrashDisk>(
     ensures carried { (may_stop : Bool) → IsCalm may_stop (is_arm (machine_line line)) (D.counts disk.old)
         → (fates : Fates) × AreOfLine fates (heard may_stop (D.counts disk.old)) (heard may_stop (D.counts disk.new))
         × (IsKnown D.tells (heard may_stop (D.counts disk.old)).stops (heard may_stop (D.counts disk.new)).stops
-        → Comes result (carry_out bound fates number (machine_line line) (view_of world.old)) (view_of world.new) piece.new.items)
+        → ComesTo result (carry_out bound fates number (machine_line line) (view_of world.old)) (view_of world.new) piece.new.items)
         × OnErr result (D.tells → EachLeft (D.view disk.new) (IsCarrying bound fates number (machine_line line) (view_of world.old)))
         × OnOk result (IsKnown D.tells (heard may_stop (D.counts disk.old)).stops (heard may_stop (D.counts disk.new)).stops
         → LineArms bound fates number (machine_line line) (view_of world.old) (D.counts disk.old).armed (D.counts disk.new).armed) }
-    ensures in_step { Stays result (IsInStep D.tells (D.view disk.new) world.new) }
+    ensures in_step { StaysBut result (IsInStep D.tells (D.view disk.new) world.new) }
     ensures counts { IsLater (D.counts disk.old) (D.counts disk.new) (result ≡ Err fault.DiskFailed) }
     ensures quiet { is_arm (machine_line line) ≡ false → IsSome (D.counts disk.new).armed → IsSome (D.counts disk.old).armed }
 {
@@ -63,10 +63,10 @@ fn begin<D: CrashDisk>(
     requires empty { piece.old.items ≡ [] }
     ensures begun { (fate : Fate) × Fares fate (D.counts disk.old) (D.counts disk.new)
         × (IsTold fate D.tells
-        → Comes result (onward (going (view_of world.old) []) (line_happens fate number (machine_line line) (view_of world.old))) (view_of world.new) piece.new.items)
+        → ComesTo result (onward (going (view_of world.old) []) (line_happens fate number (machine_line line) (view_of world.old))) (view_of world.new) piece.new.items)
         × OnErr result (D.tells → EachLeft (D.view disk.new) (IsLeft (view_of world.old).durable (line_happens fate number (machine_line line) (view_of world.old))))
         × OnOk result (IsTold fate D.tells → ArmBy fate (view_of world.old) (view_of world.new) (armed_at (machine_line line) (D.counts disk.old).armed) (D.counts disk.new).armed) }
-    ensures in_step { Stays result (IsInStep D.tells (D.view disk.new) world.new) }
+    ensures in_step { StaysBut result (IsInStep D.tells (D.view disk.new) world.new) }
     ensures counts { IsLater (D.counts disk.old) (D.counts disk.new) (result ≡ Err fault.DiskFailed) }
     ensures quiet { is_arm (machine_line line) ≡ false → IsSome (D.counts disk.new).armed → IsSome (D.counts disk.old).armed }
 {
@@ -89,11 +89,11 @@ fn settle<D: CrashDisk>(
     ensures settled { (may_stop : Bool) → IsCalm may_stop false (D.counts disk.old)
         → (fates : Fates) × AreOfLine fates (heard may_stop (D.counts disk.old)) (heard may_stop (D.counts disk.new))
         × (IsKnown D.tells (heard may_stop (D.counts disk.old)).stops (heard may_stop (D.counts disk.new)).stops
-        → Comes result (settle bound fates (going (view_of world.old) piece.old.items)) (view_of world.new) piece.new.items)
+        → ComesTo result (settle bound fates (going (view_of world.old) piece.old.items)) (view_of world.new) piece.new.items)
         × OnErr result (D.tells → EachLeft (D.view disk.new) (IsSettling bound fates (going (view_of world.old) piece.old.items)))
         × OnOk result (IsKnown D.tells (heard may_stop (D.counts disk.old)).stops (heard may_stop (D.counts disk.new)).stops
         → SettleArms bound fates (going (view_of world.old) piece.old.items) (D.counts disk.old).armed (D.counts disk.new).armed) }
-    ensures in_step { Stays result (IsInStep D.tells (D.view disk.new) world.new) }
+    ensures in_step { StaysBut result (IsInStep D.tells (D.view disk.new) world.new) }
     ensures counts { IsLater (D.counts disk.old) (D.counts disk.new) (result ≡ Err fault.DiskFailed) }
     ensures quiet { IsSome (D.counts disk.new).armed → IsSome (D.counts disk.old).armed }
 {
@@ -112,8 +112,8 @@ fn settle<D: CrashDisk>(
 
 // Nothing more is due, or the line is shown to be unsettled.
 fn end_settling(alloc: Global, world: &mut World, piece: &mut Vec<Shown>) -> Result<(), WorldFault>
-    ensures rested { Comes result (settle 0 [] (going (view_of world.old) piece.old.items)) (view_of world.new) piece.new.items }
-    ensures same { Keeps world.old world.new }
+    ensures rested { ComesTo result (settle 0 [] (going (view_of world.old) piece.old.items)) (view_of world.new) piece.new.items }
+    ensures same { KeepsServer world.old world.new }
     ensures no_fault { result ≡ Err fault.DiskFailed → ⊥ }
 {
     let Some(_) = world.due() else {
@@ -139,10 +139,10 @@ fn step<D: CrashDisk>(
     requires { IsInStep D.tells (D.view disk.old) world.old }
     ensures stepped { (fate : Fate) × Fares fate (D.counts disk.old) (D.counts disk.new)
         × (IsTold fate D.tells
-        → Comes result (onward (going (view_of world.old) piece.old.items) (happen fate event (view_of world.old))) (view_of world.new) piece.new.items)
+        → ComesTo result (onward (going (view_of world.old) piece.old.items) (happen fate event (view_of world.old))) (view_of world.new) piece.new.items)
         × OnErr result (D.tells → EachLeft (D.view disk.new) (IsLeft (view_of world.old).durable (happen fate event (view_of world.old))))
         × OnOk result (IsTold fate D.tells → ArmBy fate (view_of world.old) (view_of world.new) (armed_by event (D.counts disk.old).armed) (D.counts disk.new).armed) }
-    ensures in_step { Stays result (IsInStep D.tells (D.view disk.new) world.new) }
+    ensures in_step { StaysBut result (IsInStep D.tells (D.view disk.new) world.new) }
     ensures counts { IsLater (D.counts disk.old) (D.counts disk.new) (result ≡ Err fault.DiskFailed) }
     ensures quiet { is_arming event ≡ false → IsSome (D.counts disk.new).armed → IsSome (D.counts disk.old).armed }
 {

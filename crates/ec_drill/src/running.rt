@@ -1,7 +1,7 @@
 // A run over the lines of a script.
 ghost use Rattle.std.specs.Prelude.{◌≡◌, ◌≤◌, ℕ, Bool, false, [], map, length, IsSome, MatchResult, OnOk};
 ghost use Rattle.ec_protocol.specs.Drill.{reads};
-ghost use Rattle.ec_world.specs.Worlds.{view_of, IsInStep, Keeps};
+ghost use Rattle.ec_world.specs.Worlds.{view_of, IsInStep, KeepsServer};
 ghost use Rattle.ec_drill.specs.Arms.{any_arm, is_arm, is_arm_read};
 ghost use Rattle.ec_drill.specs.ArmedSteps.{IsCalm, heard};
 ghost use Rattle.ec_drill.specs.Limits.{most_lines};
@@ -152,7 +152,7 @@ fn line_end(
 // Too many pending messages end a run; else old ones are forgotten.
 fn pending_end(world: &mut World) -> Option<Ending>
     ensures end { PendingEnd result (view_of world.old) (view_of world.new) }
-    ensures same { Keeps world.old world.new }
+    ensures same { KeepsServer world.old world.new }
 {
     let pending = world.pending();
     if pending > MOST_PENDING {

@@ -12,7 +12,7 @@ use Rattle.ec_durable.specs.declared.record.RecordFault.TheVariants.{NoSession, 
 use Rattle.ec_durable.specs.declared.record.Record.{Record}
 use Rattle.ec_durable.specs.StepLaws.{ids_stay_below}
 use Rattle.ec_durable.specs.Durable.{step, operations, op_fault, carried_out}
-use Rattle.ec_durable.specs.Steps.{Refuses, RefusesOp, AreSoundOps, AllBelow, IdsAreBelow}
+use Rattle.ec_durable.specs.Steps.{RefusesRecord, RefusesOp, AreSoundOps, AllBelow, IdsAreBelow}
 
 pub sound_at : (ops : List (ℕ × Update)) (i : ℕ) (op : ℕ × Update) → AreSoundOps ops → i < length ops → op ≡ get_or ops i op → T (is_sound op.1)
 sound_at [] i op h within is = absurd (omega arith)
@@ -29,7 +29,7 @@ op_done c ops i op d d' all within is fits new before =
     ∙ ap (λ (f : Option RecordFault). elim f as (λ z. Result Durable RecordFault) [ Some fault ↦ Err fault | None ↦ operations c (drop (i + 1) ops) (carried_out c op.1 d) ]) (sym fits)
     ∙ ap (λ l. operations c l d) (sym (next ops i op within is)) ∙ before
 
-pass : (fault : RecordFault) (f : Option RecordFault) (r : Result Durable RecordFault) → RefusesOp fault f → ((g : RecordFault) → f ≡ Some g → r ≡ Err g) → Refuses fault r
+pass : (fault : RecordFault) (f : Option RecordFault) (r : Result Durable RecordFault) → RefusesOp fault f → ((g : RecordFault) → f ≡ Some g → r ≡ Err g) → RefusesRecord fault r
 pass NoSession f r is g = g NoSession is
 pass (Done b) f r is g = g (Done b) is
 pass (Beyond b) f r is g = g (Beyond b) is
@@ -41,7 +41,7 @@ pass (NoRoom a b) f r is g = g (NoRoom a b) is
 pass NoMemory f r is g = tt
 
 pub op_refused : (c : ℕ) (ops : List (ℕ × Update)) (i : ℕ) (op : ℕ × Update) (d : Durable) (all : Result Durable RecordFault) (fault : RecordFault) → i < length ops → op ≡ get_or ops i op → RefusesOp fault (op_fault c op.0 op.1 d)
-    → operations c (drop i ops) d ≡ all → Refuses fault all
+    → operations c (drop i ops) d ≡ all → RefusesRecord fault all
 op_refused c ops i op d all fault within is refuses before =
     pass fault (op_fault c op.0 op.1 d) all refuses
     (λ g f. sym before ∙ ap (λ l. operations c l d) (next ops i op within is)

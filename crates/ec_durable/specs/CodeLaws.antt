@@ -24,7 +24,7 @@ use Rattle.ec_durable.specs.declared.record.Record.{Record}
 use Rattle.ec_durable.specs.declared.record.Record.TheVariants.{Batch, Open, End, Ids, Epoch}
 use Rattle.ec_durable.specs.Steps.{AreSound, AreSoundOps}
 use Rattle.ec_durable.specs.Codes.{is_op_count, op_fields, ops_field, batch_fields, open_fields, end_fields, ids_fields, tag, is_tag, form, record_code, whole, said}
-use Rattle.ec_durable.specs.SoundRecords.{is_sound_record, max_record_code, Answers}
+use Rattle.ec_durable.specs.SoundRecords.{is_sound_record, max_record_code, ReadsRecord}
 use Rattle.ec_durable.specs.Codes.{batched, to_batch, opened, to_open, ended, to_end, granted, to_ids, begun, to_epoch}
 use Rattle.ec_base.specs.SmallLaws.{same_some, holds}
 
@@ -164,12 +164,12 @@ said_again m fits =
     let over : nat_lt (0 + length bytes) (length bytes) ≡ false = le-ltb _ _ (omega arith) in
     rw (read, over) refl
 
-pub is_found : (bytes : List ℕ) (r : Result Record CodeFault) → AreBytes bytes → Answers r (said bytes) → IfOk r (λ m. (record_code.fits m ≡ true) × (bytes ≡ record_code.spell m))
+pub is_found : (bytes : List ℕ) (r : Result Record CodeFault) → AreBytes bytes → ReadsRecord r (said bytes) → IfOk r (λ m. (record_code.fits m ≡ true) × (bytes ≡ record_code.spell m))
 is_found bytes (Ok m) ok h = said_ok bytes m ok h
 is_found bytes (Err e) ok h = tt
 
-pub is_only : (bytes : List ℕ) (r : Result Record CodeFault) → Answers r (said bytes) → (m : Record) → record_code.fits m ≡ true → bytes ≡ record_code.spell m → Answers r (Ok m)
-is_only bytes r h m fits e = subst (λ x. Answers r x) (ap said e ∙ said_again m fits) h
+pub is_only : (bytes : List ℕ) (r : Result Record CodeFault) → ReadsRecord r (said bytes) → (m : Record) → record_code.fits m ≡ true → bytes ≡ record_code.spell m → ReadsRecord r (Ok m)
+is_only bytes r h m fits e = subst (λ x. ReadsRecord r x) (ap said e ∙ said_again m fits) h
 
 -- What has a code is sound.
 

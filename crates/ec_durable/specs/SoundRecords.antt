@@ -20,8 +20,8 @@ abbrev pub max_record_code : ℕ
 max_record_code = 19 + max_batch_ops * (8 + max_update_code)
 
 -- what a function answered is this, unless memory ran out
-abbrev pub Answers : Result Record CodeFault → Result Record CodeFault → Type 0
-Answers (Err fault.NoMemory) r = Unit {0}
-Answers (Err (fault.Short p)) r = r ≡ Err (fault.Short p)
-Answers (Err (fault.Field p)) r = r ≡ Err (fault.Field p)
-Answers (Ok m) r = r ≡ Ok m
+abbrev pub ReadsRecord : Result Record CodeFault → Result Record CodeFault → Type 0
+ReadsRecord (Err fault.NoMemory) r = Unit {0}
+ReadsRecord (Err (fault.Short p)) r = r ≡ Err (fault.Short p)
+ReadsRecord (Err (fault.Field p)) r = r ≡ Err (fault.Field p)
+ReadsRecord (Ok m) r = r ≡ Ok m

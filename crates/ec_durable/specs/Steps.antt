@@ -34,14 +34,14 @@ abbrev pub IdsAreBelow : Durable → Type 0
 IdsAreBelow d = AllBelow d.next_id (all_unspent d.sessions)
 
 -- a fault is that of the definition, or want of memory
-abbrev pub Refuses : RecordFault → Result Durable RecordFault → Type 0
-Refuses NoMemory r = Unit {0}
-Refuses fault r = r ≡ Err fault
+abbrev pub RefusesRecord : RecordFault → Result Durable RecordFault → Type 0
+RefusesRecord NoMemory r = Unit {0}
+RefusesRecord fault r = r ≡ Err fault
 
 abbrev pub RefusesOp : RecordFault → Option RecordFault → Type 0
 RefusesOp NoMemory f = Unit {0}
 RefusesOp fault f = f ≡ Some fault
 
-abbrev pub fault_of : ℕ → ApplyFault → RecordFault
-fault_of n (apply.Unfit o) = Unfit n o
-fault_of n apply.NoMemory = NoMemory
+abbrev pub record_fault : ℕ → ApplyFault → RecordFault
+record_fault n (apply.Unfit o) = Unfit n o
+record_fault n apply.NoMemory = NoMemory

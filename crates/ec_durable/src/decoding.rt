@@ -4,7 +4,7 @@ ghost use Rattle.ec_codes.specs.Formats.{variant, rows_read};
 ghost use Rattle.ec_codes.specs.Readers.{Reads};
 ghost use Rattle.ec_durable.specs.Steps.{AreSound};
 ghost use Rattle.ec_durable.specs.Codes.{op_fields, ops_field, batch_fields, open_fields, end_fields, ids_fields, form, record_code, said};
-ghost use Rattle.ec_durable.specs.SoundRecords.{is_sound_record, Answers};
+ghost use Rattle.ec_durable.specs.SoundRecords.{is_sound_record, ReadsRecord};
 ghost use Rattle.ec_durable.specs.Codes.{batched, to_batch, opened, to_open, ended, to_end, granted, to_ids};
 ghost use Rattle.ec_durable.specs.declared.record.Record.{Record};
 
@@ -21,16 +21,16 @@ pub fn decode(alloc: Global, bytes: &[u8]) -> Result<Record, CodeFault>
     ensures sound { IfOk result (λ r. (is_sound_record r ≡ true) × AreSound r) }
     ensures found { IfOk result (λ r. (record_code.fits r ≡ true) × (bytes.now ≡ record_code.spell r)) }
     // A record with this code is read, unless memory runs out.
-    ensures only { (r : Record) → record_code.fits r ≡ true → bytes.now ≡ record_code.spell r → Answers result (Ok r) }
+    ensures only { (r : Record) → record_code.fits r ≡ true → bytes.now ≡ record_code.spell r → ReadsRecord result (Ok r) }
     // Which fault it is.
-    ensures exact { Answers result (said bytes.now) }
+    ensures exact { ReadsRecord result (said bytes.now) }
 {
     read_whole(alloc, bytes)
 }
 
 #[tactic(auto, unfolding(crate::specs::Codes::said))]
 fn read_whole(alloc: Global, bytes: &[u8]) -> Result<Record, CodeFault>
-    ensures { Answers result (said bytes.now) }
+    ensures { ReadsRecord result (said bytes.now) }
 {
     let mut reader = Reader::new(alloc, bytes, 0);
     let record = read_record(&mut reader)?;

@@ -4,7 +4,7 @@ ghost use Rattle.ec_sessions.specs.Slots.{is_greater};
 ghost use Rattle.ec_sessions.specs.SlotChecks.{CanMark};
 ghost use Rattle.ec_volume.specs.Update.{is_sound};
 ghost use Rattle.ec_durable.specs.Durable as durable;
-ghost use Rattle.ec_durable.specs.Steps.{Refuses, RefusesOp, AreSound, AreSoundOps, IdsAreBelow, fault_of};
+ghost use Rattle.ec_durable.specs.Steps.{RefusesRecord, RefusesOp, AreSound, AreSoundOps, IdsAreBelow, record_fault as fault_of};
 
 use crate::record::{Record, RecordFault};
 use crate::state::Durable;
@@ -17,7 +17,7 @@ impl Durable {
         requires sound { AreSound change.now }
         requires below { IdsAreBelow self.old }
         ensures ok { OnOk result (durable.step change.now self.old ≡ Ok self.new) }
-        ensures refused { IfErr result (λ fault. Refuses fault (durable.step change.now self.old)) }
+        ensures refused { IfErr result (λ fault. RefusesRecord fault (durable.step change.now self.old)) }
         ensures err { OnErr result (self.new ≡ self.old) }
         ensures below { IdsAreBelow self.new }
     {
@@ -36,7 +36,7 @@ impl Durable {
 
     fn open(&mut self, clerk: ClerkId, age: Age, session: SessionNo) -> Result<(), RecordFault>
         ensures ok { OnOk result (durable.step (Record.Open clerk age session) self.old ≡ Ok self.new) }
-        ensures refused { IfErr result (λ fault. Refuses fault (durable.step (Record.Open clerk age session) self.old)) }
+        ensures refused { IfErr result (λ fault. RefusesRecord fault (durable.step (Record.Open clerk age session) self.old)) }
         ensures err { OnErr result (self.new ≡ self.old) }
     {
         if !self.is_greater(clerk, age) {
@@ -62,7 +62,7 @@ impl Durable {
 
     fn end(&mut self, clerk: ClerkId, session: SessionNo) -> Result<(), RecordFault>
         ensures ok { OnOk result (durable.step (Record.End clerk session) self.old ≡ Ok self.new) }
-        ensures refused { IfErr result (λ fault. Refuses fault (durable.step (Record.End clerk session) self.old)) }
+        ensures refused { IfErr result (λ fault. RefusesRecord fault (durable.step (Record.End clerk session) self.old)) }
         ensures err { OnErr result (self.new ≡ self.old) }
     {
         if !self.has_session(clerk, session) {
@@ -74,7 +74,7 @@ impl Durable {
 
     fn begin_epoch(&mut self, epoch: u64) -> Result<(), RecordFault>
         ensures ok { OnOk result (durable.step (Record.Epoch epoch) self.old ≡ Ok self.new) }
-        ensures refused { IfErr result (λ fault. Refuses fault (durable.step (Record.Epoch epoch) self.old)) }
+        ensures refused { IfErr result (λ fault. RefusesRecord fault (durable.step (Record.Epoch epoch) self.old)) }
         ensures err { OnErr result (self.new ≡ self.old) }
     {
         if epoch == 0 || epoch - 1 != self.epoch {
@@ -93,7 +93,7 @@ impl Durable {
     ) -> Result<(), RecordFault>
         requires below { IdsAreBelow self.old }
         ensures ok { OnOk result (durable.step (Record.Ids clerk session got first) self.old ≡ Ok self.new) }
-        ensures refused { IfErr result (λ fault. Refuses fault (durable.step (Record.Ids clerk session got first) self.old)) }
+        ensures refused { IfErr result (λ fault. RefusesRecord fault (durable.step (Record.Ids clerk session got first) self.old)) }
         ensures err { OnErr result (self.new ≡ self.old) }
     {
         if !self.has_session(clerk, session) {
@@ -128,7 +128,7 @@ impl Durable {
     ) -> Result<(), RecordFault>
         requires { AreSoundOps ops.now }
         ensures ok { OnOk result (durable.step (Record.Batch clerk session batch ops.now) self.old ≡ Ok self.new) }
-        ensures refused { IfErr result (λ fault. Refuses fault (durable.step (Record.Batch clerk session batch ops.now) self.old)) }
+        ensures refused { IfErr result (λ fault. RefusesRecord fault (durable.step (Record.Batch clerk session batch ops.now) self.old)) }
         ensures err { OnErr result (self.new ≡ self.old) }
     {
         if !self.has_session(clerk, session) {
@@ -154,7 +154,7 @@ impl Durable {
     ) -> Result<(), RecordFault>
         requires { AreSoundOps ops.now }
         ensures ok { OnOk result (durable.operations clerk ops.now self.old ≡ Ok self.new) }
-        ensures refused { IfErr result (λ fault. Refuses fault (durable.operations clerk ops.now self.old)) }
+        ensures refused { IfErr result (λ fault. RefusesRecord fault (durable.operations clerk ops.now self.old)) }
         ensures err { OnErr result (self.new ≡ self.old) }
         ensures mark { CanMark (durable.slot self.old clerk) → CanMark (durable.slot self.new clerk) }
     {
@@ -174,7 +174,7 @@ impl Durable {
     fn operations(&mut self, clerk: ClerkId, ops: &[(OpNo, Update)]) -> Result<(), RecordFault>
         requires { AreSoundOps ops.now }
         ensures ok { OnOk result (durable.operations clerk ops.now self.old ≡ Ok self.new) }
-        ensures refused { IfErr result (λ fault. Refuses fault (durable.operations clerk ops.now self.old)) }
+        ensures refused { IfErr result (λ fault. RefusesRecord fault (durable.operations clerk ops.now self.old)) }
         ensures mark { CanMark (durable.slot self.old clerk) → CanMark (durable.slot self.new clerk) }
     {
         for (op, update) in ops {

@@ -17,7 +17,7 @@ use Rattle.ec_mount.specs.Mount.{Mounts, Outside}
 use Rattle.ec_mount.specs.Run.{NetSeen, Ran, AreTold}
 use Rattle.ec_mount.specs.declared.status.Status.{Status}
 use Rattle.ec_mount.specs.declared.status.Status.TheVariants as status
-use Rattle.ec_echo.specs.Greeting.{GotGreeting, Greets, IsFirst, greeting_of}
+use Rattle.ec_echo.specs.Greeting.{GotGreeting, Greets, IsFirstTold, greeting_of}
 use Rattle.ec_base.specs.Lists.{Tells}
 
 -- a start that spends no counter greets, and no more
@@ -32,12 +32,12 @@ starts-so id boot q = go (nat_lt last_counter boot) q
     go true s = absurd cc
     go false s = refl
 
-first-told : (body : List ℕ) (rest : List (List ℕ)) (got : Option (List (List ℕ))) → Tells got (body ∷ rest) → IsFirst body got
+first-told : (body : List ℕ) (rest : List (List ℕ)) (got : Option (List (List ℕ))) → Tells got (body ∷ rest) → IsFirstTold body got
 first-told body rest None told = tt
 first-told body rest (Some bodies) told = (rest, told)
 
 -- the first link got the body first
-first-link : (body : List ℕ) (links : List Ended) (p : List Step) (ps : List (List Step)) → AreTold (body ∷ []) links (p ∷ ps) → (e : Ended) × (more : List Ended) × (links ≡ e ∷ more) × IsFirst body e.1
+first-link : (body : List ℕ) (links : List Ended) (p : List Step) (ps : List (List Step)) → AreTold (body ∷ []) links (p ∷ ps) → (e : Ended) × (more : List Ended) × (links ≡ e ∷ more) × IsFirstTold body e.1
 first-link body [] p ps a = absurd a
 first-link body (e ∷ es) p ps a = (e, es, refl, first-told body (said_by p) e.1 a.1)
 
@@ -56,7 +56,7 @@ ran-greets id boot before after steps r = record {
     greets : r.outs ≡ out.Send (Hello id (record { boot = boot; round = 0 })) ∷ []
     greets = sym (ap (λ d. d.outs) r.starts) ∙ starts-so id boot (ap (λ d. d.spent) r.starts)
 
-    one : (e : Ended) × (more : List Ended) × (r.links ≡ e ∷ more) × IsFirst (greeting_of id boot) e.1
+    one : (e : Ended) × (more : List Ended) × (r.links ≡ e ∷ more) × IsFirstTold (greeting_of id boot) e.1
     one = first-link (greeting_of id boot) r.links some.0 some.1
         (rw some.2 at (rw greets at r.told))
 

@@ -11,7 +11,7 @@ use Rattle.ec_serve.specs.declared.ending.Ending.TheVariants as ending
 use Rattle.ec_mount.specs.declared.status.Status as mounted
 use Rattle.ec_mount.specs.declared.status.Status.TheVariants as mount
 use Rattle.ec_echo.specs.Echo.{Links}
-use Rattle.ec_echo.specs.Forms.{Does, Echoes}
+use Rattle.ec_echo.specs.Forms.{DoesForm, Echoes}
 use Rattle.ec_echo.specs.Soak.{Told, TellsCounts, TellsLast, summary_text, last_text}
 use Rattle.ec_echo.specs.SoakDrills.{Soaked}
 use Rattle.ec_echo.specs.Serving.{TellsText, TellsEnding}
@@ -111,7 +111,7 @@ mount_not mount.OldBoot e = absurd (grind (arith, e))
 mount_not mount.PeerFault e = absurd (grind (arith, e))
 mount_not mount.Spent e = absurd (grind (arith, e))
 
-does_not : (boot : ℕ) (c : Command) (w : Outside) (n : Links) → Does boot c status.Usage w n → ⊥
+does_not : (boot : ℕ) (c : Command) (w : Outside) (n : Links) → DoesForm boot c status.Usage w n → ⊥
 does_not boot (Drill most) w n d = drill_not most d.0.0 w d.0.2 d.0.1
 does_not boot (Check most) w n d = absurd (d.0.0.1)
 does_not boot (Make number) w n d = d.0.0
@@ -122,7 +122,7 @@ does_not boot (Mount clerk) w n d = mount_not d.0 d.1
 -- words of no form, and no others, come to this status
 pub usage-of : (boot : ℕ) (words : List (List ℕ)) (st : Status) (w : Outside) (n : Links) → Echoes boot words st w n → (code st ≡ 2) ↔ ((c : Command) → Spells words c → ⊥)
 usage-of boot words st w n (inl e) = (λ two. e.1, λ none. ap code e.0)
-usage-of boot words st w n (inr e) = (λ two. absurd (does_not boot e.0 w n (subst (λ (s : Status). Does boot e.0 s w n) (is_usage st two) e.2)), λ none. absurd (none e.0 e.1))
+usage-of boot words st w n (inr e) = (λ two. absurd (does_not boot e.0 w n (subst (λ (s : Status). DoesForm boot e.0 s w n) (is_usage st two) e.2)), λ none. absurd (none e.0 e.1))
 
 pub answers-usage : (boot : ℕ) (words : List (List ℕ)) (k : ℕ) (w : Outside) (n : Links) → (st : Status) × (k ≡ code st) × Echoes boot words st w n → (k ≡ 2) ↔ ((c : Command) → Spells words c → ⊥)
 answers-usage boot words k w n e = subst (λ (k : ℕ). (k ≡ 2) ↔ ((c : Command) → Spells words c → ⊥)) (sym e.1) (usage-of boot words e.0 w n e.2)

@@ -33,16 +33,16 @@ DoesAlone (Serve count) st w = ⊥
 DoesAlone (Mount c) st w = ⊥
 
 -- A server and a mount use the net, and the other forms don't. The boot is the number of this start of the process: a mounted clerk greets with it.
-abbrev pub Does : ℕ → Command → Status → Outside → Links → Type 0
-Does boot (Drill most) st w n = DoesAlone (Drill most) st w × (n.later ≡ n.before)
-Does boot (Check most) st w n = DoesAlone (Check most) st w × (n.later ≡ n.before)
-Does boot (Make number) st w n = DoesAlone (Make number) st w × (n.later ≡ n.before)
-Does boot (Soak number) st w n = DoesAlone (Soak number) st w × (n.later ≡ n.before)
-Does boot (Serve count) st w n = Served count st w.held w.held_after w.writes w.writes_after (serving w n) × IsSourceUntouched w
-Does boot (Mount c) st w n = (end : mounted.Status) × (st ≡ of_mount end) × Mounts c boot end (mounting w n) × Greets c boot end (mounting w n).net (mounting w n).net_after × IsDiskUntouched w × StartsAs end n.before.starts n.later.starts
+abbrev pub DoesForm : ℕ → Command → Status → Outside → Links → Type 0
+DoesForm boot (Drill most) st w n = DoesAlone (Drill most) st w × (n.later ≡ n.before)
+DoesForm boot (Check most) st w n = DoesAlone (Check most) st w × (n.later ≡ n.before)
+DoesForm boot (Make number) st w n = DoesAlone (Make number) st w × (n.later ≡ n.before)
+DoesForm boot (Soak number) st w n = DoesAlone (Soak number) st w × (n.later ≡ n.before)
+DoesForm boot (Serve count) st w n = Served count st w.held w.held_after w.writes w.writes_after (serving w n) × IsSourceUntouched w
+DoesForm boot (Mount c) st w n = (end : mounted.Status) × (st ≡ of_mount end) × Mounts c boot end (mounting w n) × Greets c boot end (mounting w n).net (mounting w n).net_after × IsDiskUntouched w × StartsAs end n.before.starts n.later.starts
 
 -- Words of no form touch nothing; any others do what they spell, with its causes and what was written.
 abbrev pub Echoes : ℕ → List (List ℕ) → Status → Outside → Links → Type 0
 Echoes boot words st w n =
     ((st ≡ status.Usage) × ((c : Command) → Spells words c → ⊥) × IsUntouched w × (n.later ≡ n.before))
-    ⊎ ((c : Command) × Spells words c × Does boot c st w n)
+    ⊎ ((c : Command) × Spells words c × DoesForm boot c st w n)

@@ -13,9 +13,9 @@ abbrev pub greeting_of : ℕ → ℕ → List ℕ
 greeting_of id boot = msg_code.spell (Hello id (record { boot = boot; round = 0 }))
 
 -- where it's told, this is the first
-abbrev pub IsFirst : List ℕ → Option (List (List ℕ)) → Type 0
-IsFirst body None = ⊤
-IsFirst body (Some bodies) = (rest : List (List ℕ)) × (bodies ≡ body ∷ rest)
+abbrev pub IsFirstTold : List ℕ → Option (List (List ℕ)) → Type 0
+IsFirstTold body None = ⊤
+IsFirstTold body (Some bodies) = (rest : List (List ℕ)) × (bodies ≡ body ∷ rest)
 
 -- links came back to the net, and the first of them got that greeting first
 pub record GotGreeting (id boot : ℕ) (before after : NetSeen) : Type 0 where
@@ -23,7 +23,7 @@ pub record GotGreeting (id boot : ℕ) (before after : NetSeen) : Type 0 where
   pub got : Option (List (List ℕ))
   pub more : List Ended
   pub ended : after.ended ≡ before.ended ++ (given, got) ∷ more
-  pub first : IsFirst (greeting_of id boot) got
+  pub first : IsFirstTold (greeting_of id boot) got
 
 -- So it is where the mount ended well, and where it ended by what the server sent.
 abbrev pub Greets : ℕ → ℕ → Status → NetSeen → NetSeen → Type 0

@@ -63,12 +63,12 @@ summary_text number ss =
     ((((named (codes "soak ") number ++ named (codes " lines ") made_lines) ++ named (codes " answers ") (answers ss)) ++ named (codes " waiting ") (made_lines - answers ss)) ++ named (codes " unsettled ") (unsettled ss)) ++ 10 ∷ []
 
 -- the last line, with its end
-abbrev pub last_of : List ℕ → List (List ℕ) → List ℕ
-last_of before [] = before
-last_of before (line ∷ lines) = last_of line lines
+abbrev pub last_line : List ℕ → List (List ℕ) → List ℕ
+last_line before [] = before
+last_line before (line ∷ lines) = last_line line lines
 
 abbrev pub last_text : List ℕ → List ℕ
-last_text transcript = last_of [] (lines_of transcript) ++ 10 ∷ []
+last_text transcript = last_line [] (lines_of transcript) ++ 10 ∷ []
 
 -- the counts of the transcript were written, or a part of that line, or nothing
 abbrev pub TellsCounts : ℕ → List ℕ → Status → Option (List ℕ) → Option (List ℕ) → ℕ → ℕ → Type 0

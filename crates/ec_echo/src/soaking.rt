@@ -1,7 +1,7 @@
 // Scripts that are made, drilled and counted.
 ghost use Rattle.std.specs.Prelude.{◌≡◌, ◌≤◌, ◌++◌, [], List, None, IfOk, OnOk};
 ghost use Rattle.ec_script.specs.Lines.{lines_of};
-ghost use Rattle.ec_echo.specs.Soak.{Told, TellsCounts, TellsLast, AreSorts, IsSort, sort_of, answers, answers_in, unsettled, unsettled_in, summary_text, last_of, last_text, named};
+ghost use Rattle.ec_echo.specs.Soak.{Told, TellsCounts, TellsLast, AreSorts, IsSort, sort_of, answers, answers_in, unsettled, unsettled_in, summary_text, last_line as last_of, last_text, named};
 ghost use Rattle.ec_echo.specs.SoakDrills.{Soaked};
 ghost use Rattle.ec_echo.specs.declared.soaking.Sort.{Sort};
 

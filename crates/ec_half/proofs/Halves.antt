@@ -19,7 +19,7 @@ use Rattle.ec_disk.specs.declared.disk.DiskLen.TheVariants as len
 use Rattle.ec_disk.specs.declared.disk.Choice.{Choice}
 use Rattle.ec_disk.specs.declared.disk.Choice.TheVariants as choice
 use Rattle.ec_slots.specs.Contents.{content, content-written, part-content, length-content, byte-content}
-use Rattle.ec_half.specs.Contents.{IsHalf, HasHeader, HasLength, Rested, Stays, Fewer, Loosened, behind, behind-wrote, behind-raised, long-fewer, long-after}
+use Rattle.ec_half.specs.Contents.{IsHalf, HasHeader, HasLength, Rested, Stays, Fewer, Loosened, content_behind, behind-wrote, behind-raised, long-fewer, long-after}
 use Rattle.ec_base.proofs.Options.{none-number}
 
 one_more-rises : (a b : ℕ) → a ≤ b → one_more a ≤ one_more b
@@ -82,16 +82,16 @@ pub half-of : (now : View) (m n : ℕ) → ◌≡◌ {A = Option ℕ} (Some m) (
 half-of now m n is half = subst (λ (k : ℕ). IsHalf now k) (sym (some_same m n is)) half
 
 -- what is read at a place of the disk is read of the content
-pub read-behind : (at place n : ℕ) (bytes : List ℕ) (now : View) → place ≡ at + 4096 → bytes ≡ part now.gives place n → bytes ≡ part (behind now).gives at n
+pub read-behind : (at place n : ℕ) (bytes : List ℕ) (now : View) → place ≡ at + 4096 → bytes ≡ part now.gives place n → bytes ≡ part (content_behind now).gives at n
 read-behind at place n bytes now there is = is ∙ ap (λ (k : ℕ). part now.gives k n) there ∙ part-content now.gives at n
 
-pub written-behind : (at place : ℕ) (piece : List ℕ) (old new : View) → place ≡ at + 4096 → HasHeader old → new.gives ≡ written place piece old.gives → (behind new).gives ≡ written at piece (behind old).gives
+pub written-behind : (at place : ℕ) (piece : List ℕ) (old new : View) → place ≡ at + 4096 → HasHeader old → new.gives ≡ written place piece old.gives → (content_behind new).gives ≡ written at piece (content_behind old).gives
 written-behind at place piece old new there long is = ap content (is ∙ ap (λ (k : ℕ). written k piece old.gives) there) ∙ content-written at piece old.gives long
 
 pub header-stays : (place : ℕ) (piece : List ℕ) (old new : View) → HasHeader old → new.gives ≡ written place piece old.gives → HasHeader new
 header-stays place piece old new long is = omega (arith, long, length-written place piece old.gives, ap (λ (l : List ℕ). length l) is)
 
-pub loosened-behind : (at place n : ℕ) (old new : View) → place ≡ at + 4096 → Wrote (InRange place n) old new → new.synced ≡ old.synced → Loosened (InRange at n) (behind old) (behind new)
+pub loosened-behind : (at place n : ℕ) (old new : View) → place ≡ at + 4096 → Wrote (InRange place n) old new → new.synced ≡ old.synced → Loosened (InRange at n) (content_behind old) (content_behind new)
 loosened-behind at place n old new there wrote kept = behind-wrote at n old new (subst (λ (k : ℕ). Wrote (InRange k n) old new) there wrote) kept
 
 none_is : (v : Option ℕ) (m : ℕ) → v ≡ None → v ≡ Some m → ⊥
@@ -100,28 +100,28 @@ none_is v m none some = none-number m (sym none ∙ some)
 pub known-more : (old new : Option ℕ) (n end place : ℕ) → ((m : ℕ) → old ≡ Some m → new ≡ Some (max m end)) → end ≡ place → old ≡ Some n → new ≡ Some (max n place)
 known-more old new n end place grows there is = subst (λ (k : ℕ). new ≡ Some (max n k)) there (grows n is)
 
-pub saves-done : (a : DiskAnswer) (old new : View) → a ≡ said.Done → Saves a old new → (behind new).synced ≡ (behind new).gives
+pub saves-done : (a : DiskAnswer) (old new : View) → a ≡ said.Done → Saves a old new → (content_behind new).synced ≡ (content_behind new).gives
 saves-done a old new is saves = ap content (subst (λ (x : DiskAnswer). Saves x old new) is saves)
 
-pub saves-not : (a : DiskAnswer) (old new : View) → (a ≡ said.Done → ⊥) → Saves a old new → (behind new).synced ≡ (behind old).synced
+pub saves-not : (a : DiskAnswer) (old new : View) → (a ≡ said.Done → ⊥) → Saves a old new → (content_behind new).synced ≡ (content_behind old).synced
 saves-not said.Done old new not saves = absurd (not refl)
 saves-not said.Failed old new not saves = ap content saves
 saves-not said.Stopped old new not saves = ap content saves
 saves-not said.NoMemory old new not saves = ap content saves
 
 -- where a crash leaves what a read gives, that was synced
-pub synced-gives : (now : View) → IsSynced now → now.may_leave now.synced → (behind now).synced ≡ (behind now).gives
+pub synced-gives : (now : View) → IsSynced now → now.may_leave now.synced → (content_behind now).synced ≡ (content_behind now).gives
 synced-gives now synced given = ap content (synced now.synced given)
 
-pub length-behind : (n len : ℕ) (now : View) → n ≡ length now.gives → len ≡ n - 4096 → len ≡ length (behind now).gives
+pub length-behind : (n len : ℕ) (now : View) → n ≡ length now.gives → len ≡ n - 4096 → len ≡ length (content_behind now).gives
 length-behind n len now is less = omega (arith, is, less, length-content now.gives)
 
-pub raised-behind : (old mid new : View) → Rested (behind old) (behind mid) → content new.gives ≡ content mid.gives → IsSynced new → mid.may_leave mid.gives → Stays (behind old) (behind new)
+pub raised-behind : (old mid new : View) → Rested (content_behind old) (content_behind mid) → content new.gives ≡ content mid.gives → IsSynced new → mid.may_leave mid.gives → Stays (content_behind old) (content_behind new)
 raised-behind old mid new rested same synced given =
     let stays = behind-raised mid new same synced given in
     record { gives = stays.gives ∙ rested.gives; crash = λ c left. rested.crash c (stays.crash c left) }
 
-pub fewer-behind : (old new : View) → Cut old new → Fewer (behind old) (behind new)
+pub fewer-behind : (old new : View) → Cut old new → Fewer (content_behind old) (content_behind new)
 fewer-behind old new cuts = record { crash = λ c left. (left.0, cuts.crash left.0 left.1, left.2) }
 
 -- a power cut, seen from the content
@@ -165,13 +165,13 @@ content-cut choice.Old now synced = refl
 content-cut choice.New now synced = refl
 content-cut choice.Torn now synced = content-torn now synced
 
-pub left-behind : (c : Choice) (old new : View) → new.gives ≡ cut c old.gives old.synced → (behind new).gives ≡ cut c (behind old).gives (behind old).synced
+pub left-behind : (c : Choice) (old new : View) → new.gives ≡ cut c old.gives old.synced → (content_behind new).gives ≡ cut c (content_behind old).gives (content_behind old).synced
 left-behind c old new is = ap content is ∙ content-cut c old.gives old.synced
 
 len_is : (a b : ℕ) → ◌≡◌ {A = DiskLen} (len.Len a) (len.Len b) → b ≡ a
 len_is a b e = cc
 
-pub told-length : (asked less n : ℕ) (now : View) → asked ≡ length now.gives → less ≡ asked - 4096 → ◌≡◌ {A = DiskLen} (len.Len less) (len.Len n) → n ≡ length (behind now).gives
+pub told-length : (asked less n : ℕ) (now : View) → asked ≡ length now.gives → less ≡ asked - 4096 → ◌≡◌ {A = DiskLen} (len.Len less) (len.Len n) → n ≡ length (content_behind now).gives
 told-length asked less n now is minus same = len_is less n same ∙ length-behind asked less now is minus
 
 -- a header that was written, and synced

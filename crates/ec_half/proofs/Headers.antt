@@ -11,15 +11,15 @@ use Rattle.ec_half.specs.declared.fault.MirrorFault.{MirrorFault}
 use Rattle.ec_half.specs.declared.fault.MirrorFault.TheVariants as fault
 use Rattle.ec_half.specs.declared.header.Found.{Found}
 use Rattle.ec_half.specs.declared.header.Generation.{Generation}
-use Rattle.ec_half.specs.Headers.{word, most_generation, Shows, of_slot, IsNewest, IsFound, IsBad, NoWord, NoGate, TooGreat, IsNoHalf}
+use Rattle.ec_half.specs.Headers.{word, most_generation, ShowsHeader, of_slot, IsNewest, IsFound, IsBad, NoWord, NoGate, TooGreat, IsNoHalf}
 use Rattle.ec_base.proofs.Bools.{bool_cases}
 use Rattle.ec_base.proofs.Numbers.{none_more}
 
-shown_of : (image : List ℕ) (a b : Option ℕ) (s : Slot) → Shows image 512 a → Shows image 1024 b → Shows image (place_of s) (of_slot a b s)
+shown_of : (image : List ℕ) (a b : Option ℕ) (s : Slot) → ShowsHeader image 512 a → ShowsHeader image 1024 b → ShowsHeader image (place_of s) (of_slot a b s)
 shown_of image a b slot.First first second = first
 shown_of image a b slot.Second first second = second
 
-pub found : (image : List ℕ) (a b : Option ℕ) (g : Generation) → part image 0 8 ≡ word → Shows image 512 a → Shows image 1024 b → IsNewest a b g → g.number ≤ most_generation → IsFound image g
+pub found : (image : List ℕ) (a b : Option ℕ) (g : Generation) → part image 0 8 ≡ word → ShowsHeader image 512 a → ShowsHeader image 1024 b → IsNewest a b g → g.number ≤ most_generation → IsFound image g
 found image a b g is first second newest small =
     let here = shown_of image a b g.slot first second in
     let there = shown_of image a b (other g.slot) first second in
@@ -35,10 +35,10 @@ found image a b g is first second newest small =
     }
 
 -- no gate is open
-pub no_gate : (image : List ℕ) (place : ℕ) → place ≡ 512 → part image 0 8 ≡ word → Shows image 512 None → Shows image 1024 None → IsBad image place
+pub no_gate : (image : List ℕ) (place : ℕ) → place ≡ 512 → part image 0 8 ≡ word → ShowsHeader image 512 None → ShowsHeader image 1024 None → IsBad image place
 no_gate image place at is first second = NoGate at is (first.shut refl) (second.shut refl)
 
-pub too_great : (image : List ℕ) (place : ℕ) (a b : Option ℕ) (g : Generation) → place ≡ 1024 → part image 0 8 ≡ word → Shows image 512 a → Shows image 1024 b → IsNewest a b g → most_generation < g.number → IsBad image place
+pub too_great : (image : List ℕ) (place : ℕ) (a b : Option ℕ) (g : Generation) → place ≡ 1024 → part image 0 8 ≡ word → ShowsHeader image 512 a → ShowsHeader image 1024 b → IsNewest a b g → most_generation < g.number → IsBad image place
 too_great image place a b g at is first second newest great =
     let here = shown_of image a b g.slot first second in
     let there = shown_of image a b (other g.slot) first second in

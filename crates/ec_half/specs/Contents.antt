@@ -13,8 +13,8 @@ pub record Content : Type 1 where
   pub synced : List ℕ
   pub may_leave : List ℕ → Type 0
 
-abbrev pub behind : View → Content
-behind now = record { gives = content now.gives; synced = content now.synced; may_leave = λ c. (image : List ℕ) × now.may_leave image × (c ≡ content image) }
+abbrev pub content_behind : View → Content
+content_behind now = record { gives = content now.gives; synced = content now.synced; may_leave = λ c. (image : List ℕ) × now.may_leave image × (c ≡ content image) }
 
 -- the header is there, whatever a crash leaves
 abbrev pub IsLong : View → Type 0
@@ -73,10 +73,10 @@ synced-stays old new synced stays = record { only = λ c left. synced.only c (st
 pub saved-rested : (old new : Content) → old.synced ≡ old.gives → Rested old new → new.synced ≡ new.gives
 saved-rested old new saved rests = rests.synced ∙ saved ∙ sym rests.gives
 
-pub behind-rests : (old new : View) → Rests old new → new.synced ≡ old.synced → Rested (behind old) (behind new)
+pub behind-rests : (old new : View) → Rests old new → new.synced ≡ old.synced → Rested (content_behind old) (content_behind new)
 behind-rests old new rests kept = record { gives = ap content rests.gives; synced = ap content kept; crash = λ c left. (left.0, rests.crash left.0 left.1, left.2) }
 
-pub behind-stays : (old new : View) → Rests old new → Stays (behind old) (behind new)
+pub behind-stays : (old new : View) → Rests old new → Stays (content_behind old) (content_behind new)
 behind-stays old new rests = record { gives = ap content rests.gives; crash = λ c left. (left.0, rests.crash left.0 left.1, left.2) }
 
 -- a crash in a write behind the header, seen from the content
@@ -89,19 +89,19 @@ behind-loose at n x c loose = record {
       ∙ sym (byte-content x i);
 }
 
-pub behind-wrote : (at n : ℕ) (old new : View) → Wrote (InRange (at + 4096) n) old new → new.synced ≡ old.synced → Loosened (InRange at n) (behind old) (behind new)
+pub behind-wrote : (at n : ℕ) (old new : View) → Wrote (InRange (at + 4096) n) old new → new.synced ≡ old.synced → Loosened (InRange at n) (content_behind old) (content_behind new)
 behind-wrote at n old new wrote kept = record { synced = ap content kept; crash = from }
   where
-    from : (c : List ℕ) → (behind new).may_leave c → (before : List ℕ) × (behind old).may_leave before × Loose (InRange at n) before c
+    from : (c : List ℕ) → (content_behind new).may_leave c → (before : List ℕ) × (content_behind old).may_leave before × Loose (InRange at n) before c
     from c left =
         let after = wrote.crash left.0 left.1 in
         (content after.0, (after.0, after.1, refl), subst (λ (l : List ℕ). Loose (InRange at n) (content after.0) l) (sym left.2) (behind-loose at n after.0 left.0 after.2))
 
 -- a disk that is synced, with the content that it had
-pub behind-raised : (old new : View) → content new.gives ≡ content old.gives → IsSynced new → old.may_leave old.gives → Stays (behind old) (behind new)
+pub behind-raised : (old new : View) → content new.gives ≡ content old.gives → IsSynced new → old.may_leave old.gives → Stays (content_behind old) (content_behind new)
 behind-raised old new same synced given = record { gives = same; crash = λ c left. (old.gives, given, left.2 ∙ ap content (synced left.0 left.1) ∙ same) }
 
-pub behind-synced : (now : View) → IsSynced now → AllSynced (behind now)
+pub behind-synced : (now : View) → IsSynced now → AllSynced (content_behind now)
 behind-synced now synced = record { only = λ c left. left.2 ∙ ap content (synced left.0 left.1) }
 
 pub long-fewer : (old new : View) → IsLong old → ((image : List ℕ) → new.may_leave image → old.may_leave image) → IsLong new

@@ -16,7 +16,7 @@ abbrev pub most_generation : ℕ
 most_generation = 2 ^ 62
 
 -- the number behind the gate at this place, where it's open
-pub record Shows (image : List ℕ) (at : ℕ) (number : Option ℕ) : Type 0 where
+pub record ShowsHeader (image : List ℕ) (at : ℕ) (number : Option ℕ) : Type 0 where
   pub shut : number ≡ None → byte image at ≡ open_gate → ⊥
   pub is_open : (n : ℕ) → number ≡ Some n → byte image at ≡ open_gate
   pub number_is : (n : ℕ) → number ≡ Some n → from_be_bytes w64 (part image (at + 1) 8) ≡ n
@@ -63,6 +63,6 @@ abbrev pub MayBeHalf : List ℕ → Type 0
 MayBeHalf image = (length image ≤ header_bytes) ⊎ ((g : Generation) × IsFound image g)
 
 -- what a disk is found to be, by what a read gives
-abbrev pub IsOf : Found → List ℕ → Type 0
-IsOf found.Empty image = length image ≤ header_bytes
-IsOf (found.Half g) image = (header_bytes < length image) × IsFound image g
+abbrev pub IsFoundOf : Found → List ℕ → Type 0
+IsFoundOf found.Empty image = length image ≤ header_bytes
+IsFoundOf (found.Half g) image = (header_bytes < length image) × IsFound image g

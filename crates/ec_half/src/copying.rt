@@ -2,7 +2,7 @@
 ghost use Rattle.std.specs.Prelude.{◌≡◌, ◌<◌, ◌≤◌, ◌+◌, ◌⊎◌, ℕ, Some, length, true, false};
 ghost use Rattle.ec_disk.specs.declared.disk.DiskAnswer.{DiskAnswer};
 ghost use Rattle.ec_disk.specs.declared.disk.DiskAnswer.TheVariants as said;
-ghost use Rattle.ec_half.specs.Contents.{behind, HasHeader, Rested, Stays, AllSynced};
+ghost use Rattle.ec_half.specs.Contents.{content_behind, HasHeader, Rested, Stays, AllSynced};
 ghost use Rattle.ec_slots.specs.Contents.{filled};
 ghost use Rattle.ec_half.specs.declared.copying.Joined.TheVariants as joined;
 ghost use Rattle.ec_half.specs.declared.copying.Copied.TheVariants as copied;
@@ -55,14 +55,14 @@ pub fn join<S: CrashDisk, O: CrashDisk>(
     ensures raised_alone { result ≡ joined.SourceAlone → source.new.generation.number ≡ number + 1 }
     ensures other_raised { result ≡ joined.Both → other.new.generation.number ≡ number }
     ensures other_stays { result ≡ joined.SourceAlone → other.new.generation ≡ other.old.generation }
-    ensures source_stays { (result ≡ joined.Both) ⊎ (result ≡ joined.SourceAlone) → S.tells → Stays (behind (S.view source.old.disk.now)) (behind (S.view source.new.disk.now)) }
-    ensures source_synced { (result ≡ joined.Both) ⊎ (result ≡ joined.SourceAlone) → S.tells → AllSynced (behind (S.view source.new.disk.now)) }
-    ensures source_saved { (result ≡ joined.Both) ⊎ (result ≡ joined.SourceAlone) → S.tells → (behind (S.view source.new.disk.now)).synced ≡ (behind (S.view source.new.disk.now)).gives }
+    ensures source_stays { (result ≡ joined.Both) ⊎ (result ≡ joined.SourceAlone) → S.tells → Stays (content_behind (S.view source.old.disk.now)) (content_behind (S.view source.new.disk.now)) }
+    ensures source_synced { (result ≡ joined.Both) ⊎ (result ≡ joined.SourceAlone) → S.tells → AllSynced (content_behind (S.view source.new.disk.now)) }
+    ensures source_saved { (result ≡ joined.Both) ⊎ (result ≡ joined.SourceAlone) → S.tells → (content_behind (S.view source.new.disk.now)).synced ≡ (content_behind (S.view source.new.disk.now)).gives }
     ensures source_known { (result ≡ joined.Both) ⊎ (result ≡ joined.SourceAlone) → (n : ℕ) × (source.new.len ≡ Some n) }
-    ensures other_synced { result ≡ joined.Both → O.tells → AllSynced (behind (O.view other.new.disk.now)) }
-    ensures other_saved { result ≡ joined.Both → O.tells → (behind (O.view other.new.disk.now)).synced ≡ (behind (O.view other.new.disk.now)).gives }
+    ensures other_synced { result ≡ joined.Both → O.tells → AllSynced (content_behind (O.view other.new.disk.now)) }
+    ensures other_saved { result ≡ joined.Both → O.tells → (content_behind (O.view other.new.disk.now)).synced ≡ (content_behind (O.view other.new.disk.now)).gives }
     ensures other_known { result ≡ joined.Both → (n : ℕ) × (other.new.len ≡ Some n) }
-    ensures alike { result ≡ joined.Both → S.tells → O.tells → HasHeader (O.view other.old.disk.now) → len ≡ length (behind (S.view source.old.disk.now)).gives → length (behind (O.view other.old.disk.now)).gives ≤ len → (behind (O.view other.new.disk.now)).gives ≡ (behind (S.view source.old.disk.now)).gives }
+    ensures alike { result ≡ joined.Both → S.tells → O.tells → HasHeader (O.view other.old.disk.now) → len ≡ length (content_behind (S.view source.old.disk.now)).gives → length (content_behind (O.view other.old.disk.now)).gives ≤ len → (content_behind (O.view other.new.disk.now)).gives ≡ (content_behind (S.view source.old.disk.now)).gives }
     ensures most { result ≡ joined.Both → (n : ℕ) → source.old.most ≤ n → number ≤ n → source.new.most ≤ n }
     ensures most_alone { (n : ℕ) → source.old.most ≤ n → number < n → source.new.most ≤ n }
     ensures other_most { (n : ℕ) → other.old.most ≤ n → number ≤ n → other.new.most ≤ n }
@@ -97,9 +97,9 @@ fn without_other<S: CrashDisk>(source: &mut Half<'_, S>, fault: DiskAnswer, numb
     ensures never_stops { source.old.may_stop ≡ false → (fault ≡ said.Stopped → ⊥) → result ≡ joined.Fault said.Stopped → ⊥ }
     ensures keeps { source.old.has_failed ≡ true → source.new.has_failed ≡ true }
     ensures failed { result ≡ joined.Fault said.Failed → source.new.has_failed ≡ true }
-    ensures stays { result ≡ joined.SourceAlone → S.tells → Stays (behind (S.view source.old.disk.now)) (behind (S.view source.new.disk.now)) }
-    ensures synced { result ≡ joined.SourceAlone → S.tells → AllSynced (behind (S.view source.new.disk.now)) }
-    ensures saved { result ≡ joined.SourceAlone → S.tells → (behind (S.view source.new.disk.now)).synced ≡ (behind (S.view source.new.disk.now)).gives }
+    ensures stays { result ≡ joined.SourceAlone → S.tells → Stays (content_behind (S.view source.old.disk.now)) (content_behind (S.view source.new.disk.now)) }
+    ensures synced { result ≡ joined.SourceAlone → S.tells → AllSynced (content_behind (S.view source.new.disk.now)) }
+    ensures saved { result ≡ joined.SourceAlone → S.tells → (content_behind (S.view source.new.disk.now)).synced ≡ (content_behind (S.view source.new.disk.now)).gives }
     ensures known { result ≡ joined.SourceAlone → (n : ℕ) × (source.new.len ≡ Some n) }
     ensures most { (n : ℕ) → source.old.most ≤ n → number < n → source.new.most ≤ n }
 {
@@ -121,7 +121,7 @@ pub fn lengthen<D: CrashDisk>(half: &mut Half<'_, D>, from: u64, to: u64) -> Dis
     ensures failed { result ≡ said.Failed → half.new.has_failed ≡ true }
     ensures generation { half.new.generation ≡ half.old.generation }
     ensures most { half.new.most ≡ half.old.most }
-    ensures filled { result ≡ said.Done → D.tells → HasHeader (D.view half.old.disk.now) → from ≡ length (behind (D.view half.old.disk.now)).gives → (behind (D.view half.new.disk.now)).gives ≡ filled (behind (D.view half.old.disk.now)).gives to }
+    ensures filled { result ≡ said.Done → D.tells → HasHeader (D.view half.old.disk.now) → from ≡ length (content_behind (D.view half.old.disk.now)).gives → (content_behind (D.view half.new.disk.now)).gives ≡ filled (content_behind (D.view half.old.disk.now)).gives to }
 {
     if to <= from {
         return DiskAnswer::Done;
@@ -159,9 +159,9 @@ fn copy<S: CrashDisk, O: CrashDisk>(
     ensures other_not_done { result ≡ copied.OfOther said.Done → ⊥ }
     ensures source_failed { result ≡ copied.OfSource said.Failed → source.new.has_failed ≡ true }
     ensures other_failed { result ≡ copied.OfOther said.Failed → other.new.has_failed ≡ true }
-    ensures source_rests { S.tells → Rested (behind (S.view source.old.disk.now)) (behind (S.view source.new.disk.now)) }
+    ensures source_rests { S.tells → Rested (content_behind (S.view source.old.disk.now)) (content_behind (S.view source.new.disk.now)) }
     ensures source_known { source.new.len ≡ source.old.len }
-    ensures copied { result ≡ copied.Done → S.tells → O.tells → HasHeader (O.view other.old.disk.now) → len ≡ length (behind (S.view source.old.disk.now)).gives → length (behind (O.view other.old.disk.now)).gives ≤ len → (behind (O.view other.new.disk.now)).gives ≡ (behind (S.view source.old.disk.now)).gives }
+    ensures copied { result ≡ copied.Done → S.tells → O.tells → HasHeader (O.view other.old.disk.now) → len ≡ length (content_behind (S.view source.old.disk.now)).gives → length (content_behind (O.view other.old.disk.now)).gives ≤ len → (content_behind (O.view other.new.disk.now)).gives ≡ (content_behind (S.view source.old.disk.now)).gives }
 {
     let mut bytes = [0; PIECE_BYTES];
     let mut at: u64 = 0;

@@ -6,7 +6,7 @@ ghost use Rattle.ec_disk.specs.declared.disk.DiskLen.TheVariants as len;
 ghost use Rattle.ec_disk.specs.Choices.{cut};
 ghost use Rattle.ec_disk.specs.Disk.{part};
 ghost use Rattle.ec_disk.specs.Effects.{InRange, written};
-ghost use Rattle.ec_half.specs.Contents.{IsHalf, HasHeader, HasLength, behind, Rested, Stays, Fewer, Loosened, AllSynced};
+ghost use Rattle.ec_half.specs.Contents.{IsHalf, HasHeader, HasLength, content_behind, Rested, Stays, Fewer, Loosened, AllSynced};
 ghost use Rattle.ec_slots.specs.Slots.{header_bytes};
 
 use crate::header::{Generation, HEADER_BYTES, raise};
@@ -73,8 +73,8 @@ impl<'a, D: CrashDisk> Half<'a, D> {
         ensures failed { result ≡ said.Failed → self.new.has_failed ≡ true }
         ensures keeps { self.old.has_failed ≡ true → self.new.has_failed ≡ true }
         ensures generation { self.new.generation ≡ self.old.generation }
-        ensures bytes { D.tells → result ≡ said.Done → into.new ≡ part (behind (D.view self.old.disk.now)).gives at (length into.old) }
-        ensures rests { D.tells → Rested (behind (D.view self.old.disk.now)) (behind (D.view self.new.disk.now)) }
+        ensures bytes { D.tells → result ≡ said.Done → into.new ≡ part (content_behind (D.view self.old.disk.now)).gives at (length into.old) }
+        ensures rests { D.tells → Rested (content_behind (D.view self.old.disk.now)) (content_behind (D.view self.new.disk.now)) }
         ensures known { self.new.len ≡ self.old.len }
         ensures most { self.new.most ≡ self.old.most }
     {
@@ -93,9 +93,9 @@ impl<'a, D: CrashDisk> Half<'a, D> {
         ensures failed { result ≡ said.Failed → self.new.has_failed ≡ true }
         ensures keeps { self.old.has_failed ≡ true → self.new.has_failed ≡ true }
         ensures generation { self.new.generation ≡ self.old.generation }
-        ensures written { D.tells → result ≡ said.Done → HasHeader (D.view self.old.disk.now) → (behind (D.view self.new.disk.now)).gives ≡ written at piece.now (behind (D.view self.old.disk.now)).gives }
+        ensures written { D.tells → result ≡ said.Done → HasHeader (D.view self.old.disk.now) → (content_behind (D.view self.new.disk.now)).gives ≡ written at piece.now (content_behind (D.view self.old.disk.now)).gives }
         ensures header { D.tells → result ≡ said.Done → HasHeader (D.view self.old.disk.now) → HasHeader (D.view self.new.disk.now) }
-        ensures loosened { D.tells → Loosened (InRange at (length piece.now)) (behind (D.view self.old.disk.now)) (behind (D.view self.new.disk.now)) }
+        ensures loosened { D.tells → Loosened (InRange at (length piece.now)) (content_behind (D.view self.old.disk.now)) (content_behind (D.view self.new.disk.now)) }
         ensures known { result ≡ said.Done → (n : ℕ) → self.old.len ≡ Some n → self.new.len ≡ Some (max n (at + length piece.now)) }
         ensures most { self.new.most ≡ self.old.most }
     {
@@ -122,10 +122,10 @@ impl<'a, D: CrashDisk> Half<'a, D> {
         ensures failed { result ≡ said.Failed → self.new.has_failed ≡ true }
         ensures keeps { self.old.has_failed ≡ true → self.new.has_failed ≡ true }
         ensures generation { self.new.generation ≡ self.old.generation }
-        ensures stays { D.tells → Stays (behind (D.view self.old.disk.now)) (behind (D.view self.new.disk.now)) }
-        ensures all_synced { D.tells → result ≡ said.Done → AllSynced (behind (D.view self.new.disk.now)) }
-        ensures saved { D.tells → result ≡ said.Done → (behind (D.view self.new.disk.now)).synced ≡ (behind (D.view self.new.disk.now)).gives }
-        ensures unsaved { D.tells → (result ≡ said.Done → ⊥) → (behind (D.view self.new.disk.now)).synced ≡ (behind (D.view self.old.disk.now)).synced }
+        ensures stays { D.tells → Stays (content_behind (D.view self.old.disk.now)) (content_behind (D.view self.new.disk.now)) }
+        ensures all_synced { D.tells → result ≡ said.Done → AllSynced (content_behind (D.view self.new.disk.now)) }
+        ensures saved { D.tells → result ≡ said.Done → (content_behind (D.view self.new.disk.now)).synced ≡ (content_behind (D.view self.new.disk.now)).gives }
+        ensures unsaved { D.tells → (result ≡ said.Done → ⊥) → (content_behind (D.view self.new.disk.now)).synced ≡ (content_behind (D.view self.old.disk.now)).synced }
         ensures known { self.new.len ≡ self.old.len }
         ensures most { self.new.most ≡ self.old.most }
     {
@@ -141,9 +141,9 @@ impl<'a, D: CrashDisk> Half<'a, D> {
         ensures failed { result ≡ len.Failed → self.new.has_failed ≡ true }
         ensures keeps { self.old.has_failed ≡ true → self.new.has_failed ≡ true }
         ensures generation { self.new.generation ≡ self.old.generation }
-        ensures len { D.tells → (n : ℕ) → result ≡ len.Len n → n ≡ length (behind (D.view self.old.disk.now)).gives }
+        ensures len { D.tells → (n : ℕ) → result ≡ len.Len n → n ≡ length (content_behind (D.view self.old.disk.now)).gives }
         ensures header { D.tells → HasHeader (D.view self.old.disk.now) → HasHeader (D.view self.new.disk.now) }
-        ensures rests { D.tells → Rested (behind (D.view self.old.disk.now)) (behind (D.view self.new.disk.now)) }
+        ensures rests { D.tells → Rested (content_behind (D.view self.old.disk.now)) (content_behind (D.view self.new.disk.now)) }
         ensures known { self.new.len ≡ self.old.len }
         ensures most { self.new.most ≡ self.old.most }
     {
@@ -168,9 +168,9 @@ impl<'a, D: CrashDisk> Half<'a, D> {
         ensures keeps { self.old.has_failed ≡ true → self.new.has_failed ≡ true }
         ensures raised { result ≡ said.Done → self.new.generation.number ≡ number }
         ensures generation { (result ≡ said.Done → ⊥) → self.new.generation ≡ self.old.generation }
-        ensures stays { D.tells → result ≡ said.Done → Stays (behind (D.view self.old.disk.now)) (behind (D.view self.new.disk.now)) }
-        ensures all_synced { D.tells → result ≡ said.Done → AllSynced (behind (D.view self.new.disk.now)) }
-        ensures saved { D.tells → result ≡ said.Done → (behind (D.view self.new.disk.now)).synced ≡ (behind (D.view self.new.disk.now)).gives }
+        ensures stays { D.tells → result ≡ said.Done → Stays (content_behind (D.view self.old.disk.now)) (content_behind (D.view self.new.disk.now)) }
+        ensures all_synced { D.tells → result ≡ said.Done → AllSynced (content_behind (D.view self.new.disk.now)) }
+        ensures saved { D.tells → result ≡ said.Done → (content_behind (D.view self.new.disk.now)).synced ≡ (content_behind (D.view self.new.disk.now)).gives }
         ensures known { result ≡ said.Done → (n : ℕ) × (self.new.len ≡ Some n) }
         ensures most { (n : ℕ) → self.old.most ≤ n → number ≤ n → self.new.most ≤ n }
     {
@@ -196,10 +196,10 @@ impl<'a, D: CrashDisk> Half<'a, D> {
         ensures failed { result ≡ said.Failed → self.new.has_failed ≡ true }
         ensures keeps { self.old.has_failed ≡ true → self.new.has_failed ≡ true }
         ensures generation { self.new.generation ≡ self.old.generation }
-        ensures fewer { D.tells → Fewer (behind (D.view self.old.disk.now)) (behind (D.view self.new.disk.now)) }
-        ensures leaves { D.tells → result ≡ said.Done → (behind (D.view self.new.disk.now)).gives ≡ cut choice (behind (D.view self.old.disk.now)).gives (behind (D.view self.old.disk.now)).synced }
-        ensures all_synced { D.tells → result ≡ said.Done → AllSynced (behind (D.view self.new.disk.now)) }
-        ensures saved { D.tells → result ≡ said.Done → (behind (D.view self.new.disk.now)).synced ≡ (behind (D.view self.new.disk.now)).gives }
+        ensures fewer { D.tells → Fewer (content_behind (D.view self.old.disk.now)) (content_behind (D.view self.new.disk.now)) }
+        ensures leaves { D.tells → result ≡ said.Done → (content_behind (D.view self.new.disk.now)).gives ≡ cut choice (content_behind (D.view self.old.disk.now)).gives (content_behind (D.view self.old.disk.now)).synced }
+        ensures all_synced { D.tells → result ≡ said.Done → AllSynced (content_behind (D.view self.new.disk.now)) }
+        ensures saved { D.tells → result ≡ said.Done → (content_behind (D.view self.new.disk.now)).synced ≡ (content_behind (D.view self.new.disk.now)).gives }
         ensures most { self.new.most ≡ self.old.most }
     {
         self.len = None;
@@ -213,7 +213,7 @@ impl<'a, D: CrashDisk> Half<'a, D> {
         ensures may_stop { self.new.may_stop ≡ false }
         ensures failed { self.new.has_failed ≡ self.old.has_failed }
         ensures generation { self.new.generation ≡ self.old.generation }
-        ensures rests { D.tells → Rested (behind (D.view self.old.disk.now)) (behind (D.view self.new.disk.now)) }
+        ensures rests { D.tells → Rested (content_behind (D.view self.old.disk.now)) (content_behind (D.view self.new.disk.now)) }
         ensures known { self.new.len ≡ self.old.len }
         ensures most { self.new.most ≡ self.old.most }
     {
@@ -230,7 +230,7 @@ impl<'a, D: CrashDisk> Half<'a, D> {
         ensures generation { self.new.generation ≡ self.old.generation }
         ensures not_done { IsErrOf result said.Done → ⊥ }
         ensures len { IfOk result (λ len. D.tells → HasLength (D.view self.new.disk.now) len) }
-        ensures rests { D.tells → Rested (behind (D.view self.old.disk.now)) (behind (D.view self.new.disk.now)) }
+        ensures rests { D.tells → Rested (content_behind (D.view self.old.disk.now)) (content_behind (D.view self.new.disk.now)) }
         ensures known_still { self.new.len ≡ self.old.len }
         ensures most { self.new.most ≡ self.old.most }
     {

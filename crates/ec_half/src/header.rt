@@ -5,7 +5,7 @@ ghost use Rattle.ec_disk.specs.Disk.{part};
 ghost use Rattle.ec_disk.specs.Effects.{Counted, IsSynced, Rests};
 ghost use Rattle.ec_disk.specs.declared.disk.DiskAnswer.TheVariants as said;
 ghost use Rattle.ec_half.specs.Contents.{IsHalf, HasHeader, HasLength};
-ghost use Rattle.ec_half.specs.Headers.{Shows, IsNewest, IsFound, IsBad, IsNoHalf, IsOf, MayBeHalf};
+ghost use Rattle.ec_half.specs.Headers.{ShowsHeader, IsNewest, IsFound, IsBad, IsNoHalf, IsFoundOf, MayBeHalf};
 ghost use Rattle.ec_half.specs.declared.fault.MirrorFault.TheVariants as fault;
 ghost use Rattle.ec_half.specs.declared.header.Found.TheVariants as found;
 ghost use Rattle.ec_half.specs.declared.header.Generation.{Generation};
@@ -87,7 +87,7 @@ pub enum Found {
 /// Looks at the first or the second disk, and writes nothing.
 pub fn look_at<D: Disk>(disk: &mut D, which: u8) -> Result<Found, MirrorFault>
     ensures ok { IsOk result → D.tells → MayBeHalf (D.view disk.old).gives }
-    ensures found { IfOk result (λ found. D.tells → IsOf found (D.view disk.old).gives) }
+    ensures found { IfOk result (λ found. D.tells → IsFoundOf found (D.view disk.old).gives) }
     ensures bad { (k place : ℕ) → result ≡ Err (fault.BadMirror k place) → (k ≡ which) × (D.tells → IsNoHalf (D.view disk.old).gives place) }
     ensures rests { D.tells → Rests (D.view disk.old) (D.view disk.new) }
     ensures counts { Counted (D.counts disk.old) (D.counts disk.new) (IsErrOf result fault.DiskFailed) (IsErrOf result fault.DiskStopped) }
@@ -149,7 +149,7 @@ fn newest(first: Option<u64>, second: Option<u64>) -> Option<Generation>
 // The number of a slot whose gate is open.
 fn number_at(bytes: &[u8; READ_BYTES], at: usize) -> Option<u64>
     requires { at + 9 ≤ 1033 }
-    ensures { Shows bytes.now at result }
+    ensures { ShowsHeader bytes.now at result }
 {
     if bytes[at] != OPEN {
         return None;

@@ -8,7 +8,7 @@ use Rattle.ec_log.specs.Log as logs
 use Rattle.ec_log.specs.declared.state.LogState.{LogState}
 use Rattle.ec_protocol.specs.Clerk as clerk
 
-pub last_is : (xs : List ℕ) (d : ℕ) → 1 ≤ length xs → clerk.last_of xs ≡ Some (get_or xs (length xs - 1) d)
+pub last_is : (xs : List ℕ) (d : ℕ) → 1 ≤ length xs → clerk.last_number xs ≡ Some (get_or xs (length xs - 1) d)
 last_is [] d l = absurd (omega arith)
 last_is (x ∷ []) d l = refl
 last_is (x ∷ y ∷ xs) d l =

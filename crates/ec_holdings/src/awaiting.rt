@@ -21,7 +21,7 @@ pub fn awaited(call: &Call, outcome: &Outcome) -> Option<Asked>
 }
 
 fn on_last(touched: &[ObjId]) -> Option<Asked>
-    ensures { result ≡ clerk.on_object (clerk.last_of touched.now) }
+    ensures { result ≡ clerk.on_object (clerk.last_number touched.now) }
 {
     match touched {
         [] => None,

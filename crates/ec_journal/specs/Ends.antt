@@ -17,16 +17,16 @@ answer_of fault.NoMemory = NoMemory
 answer_of _ = Done
 
 -- a read, write or sync with this answer
-abbrev pub IsAnswered : DiskAnswer → Call → Type 0
-IsAnswered answer (Read at before is after) = is ≡ answer
-IsAnswered answer (Write at bytes is) = is ≡ answer
-IsAnswered answer (Sync is) = is ≡ answer
-IsAnswered answer (Len is) = ⊥
+abbrev pub HasAnswer : DiskAnswer → Call → Type 0
+HasAnswer answer (Read at before is after) = is ≡ answer
+HasAnswer answer (Write at bytes is) = is ≡ answer
+HasAnswer answer (Sync is) = is ≡ answer
+HasAnswer answer (Len is) = ⊥
 
 -- one disk behind another by these calls, each of which was done
 abbrev pub Did : {D : Type 0} → (D → Call → D → Type 0) → List Call → D → D → Type 0
 Did does [] old new = old ≡ new
-Did {D} does (call ∷ calls) old new = (mid : D) × does old call mid × IsAnswered Done call × Did does calls mid new
+Did {D} does (call ∷ calls) old new = (mid : D) × does old call mid × HasAnswer Done call × Did does calls mid new
 
 -- one disk behind another by so many calls, each of which was done
 abbrev pub DidAll : {D : Type 0} → (D → Call → D → Type 0) → ℕ → D → D → Type 0
@@ -39,12 +39,12 @@ pub record EndsBy {D : Type 0} (does : D → Call → D → Type 0) (answer : Di
   pub before : D
   pub did : Did does calls old before
   pub last : Call
-  pub is : IsAnswered answer last
+  pub is : HasAnswer answer last
   pub ends : does before last new
 
 -- A want of memory: no call was made, or the disk itself lacked it, in one of so many calls.
-abbrev pub Lacks : {D : Type 0} → (D → Call → D → Type 0) → ℕ → D → D → Type 0
-Lacks does most old new = (new ≡ old) ⊎ EndsBy does NoMemory most old new
+abbrev pub LacksMemory : {D : Type 0} → (D → Call → D → Type 0) → ℕ → D → D → Type 0
+LacksMemory does most old new = (new ≡ old) ⊎ EndsBy does NoMemory most old new
 
 -- At most so many reads, writes and syncs, all of them where each was done.
 pub record TurnedUpTo (most : ℕ) (old new : Option ℕ) (Going Stopping : Type 0) : Type 0 where
@@ -58,7 +58,7 @@ did_then {D} does [] ys old mid new first second = subst (λ (d : D). Did does y
 did_then does (x ∷ xs) ys old mid new first second = (first.0, first.1, first.2, did_then does xs ys first.0 mid new first.3 second)
 
 -- one call that was done
-pub did_one : {D : Type 0} (does : D → Call → D → Type 0) (call : Call) (old new : D) → does old call new → IsAnswered Done call → DidAll does 1 old new
+pub did_one : {D : Type 0} (does : D → Call → D → Type 0) (call : Call) (old new : D) → does old call new → HasAnswer Done call → DidAll does 1 old new
 did_one does call old new it done = (call ∷ [], refl, (new, it, done, refl))
 
 -- some calls behind others
@@ -66,7 +66,7 @@ pub did_both : {D : Type 0} (does : D → Call → D → Type 0) (m n : ℕ) (ol
 did_both does m n old mid new first second = (first.0 ++ second.0, omega (arith, length-append first.0 second.0, first.1, second.1), did_then does first.0 second.0 old mid new first.2 second.2)
 
 -- the first call ends it
-pub ends_at_once : {D : Type 0} (does : D → Call → D → Type 0) (answer : DiskAnswer) (more : ℕ) (call : Call) (old new : D) → does old call new → IsAnswered answer call → EndsBy does answer (1 + more) old new
+pub ends_at_once : {D : Type 0} (does : D → Call → D → Type 0) (answer : DiskAnswer) (more : ℕ) (call : Call) (old new : D) → does old call new → HasAnswer answer call → EndsBy does answer (1 + more) old new
 ends_at_once does answer more call old new it is = record { calls = []; fewer = omega arith; before = old; did = refl; last = call; is = is; ends = it }
 
 -- one of the calls behind the first ones ends it

@@ -47,8 +47,8 @@ abbrev pub LeavesOld : View → View → Journal → Type 0
 LeavesOld old new journal = (bodies : List (List ℕ)) → IsOn old journal bodies → HasBodies new.synced (place_of journal) (size_of journal) bodies
 
 -- an open gate at this place stands over a record that runs past the journal
-abbrev pub IsBad : List ℕ → ℕ → ℕ → ℕ → Type 0
-IsBad image at size place = (bodies : List (List ℕ)) × (place ≡ at + length (records bodies)) × RunsPast image at size bodies
+abbrev pub IsBadJournal : List ℕ → ℕ → ℕ → ℕ → Type 0
+IsBadJournal image at size place = (bodies : List (List ℕ)) × (place ≡ at + length (records bodies)) × RunsPast image at size bodies
 
 -- the places of a journal from its closed gate on
 abbrev pub FromGate : Journal → ℕ → Type 0

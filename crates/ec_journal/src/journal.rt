@@ -34,10 +34,10 @@ impl Journal {
     ghost use Rattle.ec_disk.specs.Effects.{IsSynced, Counted, Called, Rests};
     ghost use Rattle.ec_disk.specs.Runs.{Ran};
     ghost use Rattle.ec_disk.specs.declared.disk.DiskAnswer.TheVariants as said;
-    ghost use Rattle.ec_journal.specs.Ends.{DidAll, EndsBy, Lacks, TurnedUpTo};
+    ghost use Rattle.ec_journal.specs.Ends.{DidAll, EndsBy, LacksMemory, TurnedUpTo};
     ghost use Rattle.ec_journal.specs.Records.{around_bytes, records, HasBodies};
     ghost use Rattle.ec_journal.specs.RecordBytes.{head_bytes, max_record_bytes};
-    ghost use Rattle.ec_journal.specs.Journal.{place_of, size_of, end_of, free_of, need_of, FromGate, Adds, LeavesEither, LeavesOld, IsBad};
+    ghost use Rattle.ec_journal.specs.Journal.{place_of, size_of, end_of, free_of, need_of, FromGate, Adds, LeavesEither, LeavesOld, IsBadJournal};
     ghost use Rattle.ec_journal.specs.declared.fault.JournalFault.TheVariants as fault;
 
     /// The journal of `size` bytes from `at` on, whose closed gate stands at `end` in it: 0 where it has no record.
@@ -63,9 +63,9 @@ impl Journal {
         requires inside { D.tells → at + size ≤ length (D.view disk.old).gives }
         ensures bodies { IfOk result (λ opened. D.tells → HasBodies (D.view disk.old).gives at size opened.1.items) }
         ensures journal { IfOk result (λ opened. (place_of opened.0 ≡ at) × (size_of opened.0 ≡ size) × (D.tells → end_of opened.0 ≡ length (records opened.1.items))) }
-        ensures bad { (place : ℕ) → IsErrOf result (fault.Bad place) → D.tells → IsBad (D.view disk.old).gives at size place }
+        ensures bad { (place : ℕ) → IsErrOf result (fault.Bad place) → D.tells → IsBadJournal (D.view disk.old).gives at size place }
         ensures calls { OnOk result (Called 1 (D.counts disk.old) (D.counts disk.new)) }
-        ensures not_bad { OnOk result (D.tells → (place : ℕ) → IsBad (D.view disk.old).gives at size place → ⊥) }
+        ensures not_bad { OnOk result (D.tells → (place : ℕ) → IsBadJournal (D.view disk.old).gives at size place → ⊥) }
         ensures rests { D.tells → Rests (D.view disk.old) (D.view disk.new) }
         ensures counts { Counted (D.counts disk.old) (D.counts disk.new) (IsErrOf result fault.DiskFailed) (IsErrOf result fault.DiskStopped) }
         ensures no_room { (need free : ℕ) → IsErrOf result (fault.NoRoom need free) → ⊥ }
@@ -123,7 +123,7 @@ impl Journal {
         // Behind any other fault the disk answered so in one of four calls, the last one made.
         ensures failed { IsErrOf result fault.DiskFailed → EndsBy D.does said.Failed 4 disk.old disk.new }
         ensures stopped { IsErrOf result fault.DiskStopped → EndsBy D.does said.Stopped 4 disk.old disk.new }
-        ensures no_memory { IsErrOf result fault.NoMemory → Lacks D.does 4 disk.old disk.new }
+        ensures no_memory { IsErrOf result fault.NoMemory → LacksMemory D.does 4 disk.old disk.new }
         // How many reads, writes and syncs an armed disk counted: four at `Ok`, and where it stopped, up to the one that stops.
         ensures turned { TurnedUpTo 4 (D.counts disk.old).armed (D.counts disk.new).armed (IsOk result) (IsErrOf result fault.DiskStopped) }
         // What was synced has the bodies from before.

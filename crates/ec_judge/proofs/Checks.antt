@@ -27,7 +27,7 @@ use Rattle.ec_laws.proofs.Cuts.{legal-step}
 use Rattle.ec_laws.proofs.Numbers.{each-front}
 use Rattle.ec_judge.specs.declared.carried.Judge.{Judge}
 use Rattle.ec_judge.specs.Faults.{IsFirstEntry}
-use Rattle.ec_judge.specs.Carried.{Carries, IsReady, Judges}
+use Rattle.ec_judge.specs.Carried.{Carries, EntryIsReady, Judges}
 use Rattle.ec_laws.proofs.Issues.{kept-sorted}
 use Rattle.ec_base.proofs.Bools.{both, first as left, right, on as holds}
 use Rattle.ec_laws.proofs.Places.{places}
@@ -65,7 +65,7 @@ lines-front h g a = record {
 }
 
 -- An entry behind a legal history can be judged.
-ready : (most : ℕ) (past : History) (e : ℕ × Entry) (j : Judge) → AreAtLines (past ++ e ∷ []) → Carries from_formatted past j → IsLegal from_formatted most past → IsReady j e
+ready : (most : ℕ) (past : History) (e : ℕ × Entry) (j : Judge) → AreAtLines (past ++ e ∷ []) → Carries from_formatted past j → IsLegal from_formatted most past → EntryIsReady j e
 ready most past e j lines h legal =
     let w : LeaveWellFormed from_formatted (kept from_formatted past) = whole kept-formed kept-reached call-sound call-fits kept-held from_formatted base-formatted most past (lines-front past (e ∷ []) lines) legal in
     let same : after from_formatted.volume (updates (kept from_formatted past)) ≡ shown j.firm.volume = sym (all-same (shown j.firm.volume) (after from_formatted.volume (updates (kept from_formatted past))) h.volume) in
@@ -97,7 +97,7 @@ module _ (past es : History) (i : ℕ) (e : ℕ × Entry) (within : i < length e
   turn-at : (n : ℕ) → n ≡ length past → n + i ≡ length (past ++ take i es)
   turn-at n k = ap (λ m. m + i) k ∙ ap (λ m. length past + m) (sym (length-take-le i es (omega (arith, within)))) ∙ sym (length-append past (take i es))
 
-  pub ready-at : (most : ℕ) (j : Judge) → AreAtLines (past ++ es) → Carries from_formatted (past ++ take i es) j → IsLegal from_formatted most (past ++ take i es) → IsReady j e
+  pub ready-at : (most : ℕ) (j : Judge) → AreAtLines (past ++ es) → Carries from_formatted (past ++ take i es) j → IsLegal from_formatted most (past ++ take i es) → EntryIsReady j e
   ready-at most j a c l = ready most (past ++ take i es) e j (lines-at a) c l
 
   pub few-at : Each (λ x. x.0 < 2147483648) es → e.0 < 2147483648

@@ -14,7 +14,7 @@ use Rattle.ec_history.specs.Legal.{is_closed}
 use Rattle.ec_outside.proofs.Known.{any-either, any-same}
 use Rattle.ec_judge.specs.declared.carried.Kept.{Kept}
 use Rattle.ec_judge.proofs.Volumes.{fits-more, after-more, unfit-not}
-use Rattle.ec_judge.specs.Carried.{op_of, ops_of, IsFront}
+use Rattle.ec_judge.specs.Carried.{op_of, ops_of, IsFrontKept}
 use Rattle.ec_base.proofs.Bools.{first as left, right}
 use Rattle.ec_base.proofs.Numbers.{flip_too}
 
@@ -148,19 +148,19 @@ module _ (q : Op → Bool) (ks : List Kept) (i : ℕ) (k : Kept) (within : i < l
   updates-append [] hs = refl
   updates-append (x ∷ js) hs = ap (λ l. x.update ∷ l) (updates-append js hs)
 
-  pub front-skips : (v : Images) → IsFront q ks i v → q (op_of k) ≡ false → IsFront q ks (i + 1) v
+  pub front-skips : (v : Images) → IsFrontKept q ks i v → q (op_of k) ≡ false → IsFrontKept q ks (i + 1) v
   front-skips v f e =
       let same : filter q (ops_of (take (i + 1) ks)) ≡ filter q (ops_of (take i ks)) = part-front ks i k within is q ∙ ap (λ x. filter q (ops_of (take i ks)) ++ cond x (op_of k ∷ []) []) e ∙ append-nil _ in
       record { fits = subst (λ l. Fits formatted (updates l)) (sym same) f.fits; same = λ o. f.same o ∙ ap (λ l. after formatted (updates l) o) (sym same) }
 
-  pub front-takes : (v w : Images) → IsFront q ks i v → q (op_of k) ≡ true → first_unfit k.update v (operands k.update) ≡ None → ((o : ℕ) → w o ≡ after v (k.update ∷ []) o) → IsFront q ks (i + 1) w
+  pub front-takes : (v w : Images) → IsFrontKept q ks i v → q (op_of k) ≡ true → first_unfit k.update v (operands k.update) ≡ None → ((o : ℕ) → w o ≡ after v (k.update ∷ []) o) → IsFrontKept q ks (i + 1) w
   front-takes v w f e none step =
       let us : List Update = updates (filter q (ops_of (take i ks))) in
       let same : updates (filter q (ops_of (take (i + 1) ks))) ≡ us ++ k.update ∷ [] =
       ap updates (part-front ks i k within is q ∙ ap (λ x. filter q (ops_of (take i ks)) ++ cond x (op_of k ∷ []) []) e) ∙ updates-more (filter q (ops_of (take i ks))) (op_of k) in
       record { fits = subst (Fits formatted) (sym same) (fits-more formatted us k.update v f.same f.fits none); same = λ o. after-more formatted us k.update v w f.same step o ∙ ap (λ l. after formatted l o) (sym same) }
 
-  pub front-unfit : (v : Images) (o : ℕ) → IsFront q ks i v → q (op_of k) ≡ true → first_unfit k.update v (operands k.update) ≡ Some o → ¬ (Fits formatted (updates (filter q (ops_of ks))))
+  pub front-unfit : (v : Images) (o : ℕ) → IsFrontKept q ks i v → q (op_of k) ≡ true → first_unfit k.update v (operands k.update) ≡ Some o → ¬ (Fits formatted (updates (filter q (ops_of ks))))
   front-unfit v o f e some all =
       let us : List Update = updates (filter q (ops_of (take i ks))) in
       let rest : List Op = filter q (ops_of (drop (i + 1) ks)) in

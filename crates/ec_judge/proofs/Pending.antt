@@ -16,7 +16,7 @@ use Rattle.ec_history.specs.History.{Each}
 use Rattle.ec_laws.proofs.Numbers.{each-append, each-filter}
 use Rattle.ec_pending.specs.declared.issue.Issue.{Issue}
 use Rattle.ec_judge.specs.Carried.{IsUpward}
-use Rattle.ec_pending.specs.Pending.{numbers_in, is_in, numbered, taken, rest}
+use Rattle.ec_pending.specs.Pending.{numbers_in, is_in, numbered, picked_out, rest}
 use Rattle.ec_base.proofs.Numbers.{itself}
 use Rattle.ec_base.proofs.Bools.{both, first as left, right, or-none, on as holds, and-none, is-true}
 use Rattle.ec_laws.proofs.BasesAlike.{each-map}
@@ -116,73 +116,73 @@ any-filter t q (i ∷ is) h = go (q i) (t i) refl refl (any-filter t q is h.1)
 
 module _ (p : Issue → Bool) where
   abbrev chosen : Issue → List Issue → Bool
-  chosen i is = p i || list_any (λ j. needs i.update j.update) (taken p is)
+  chosen i is = p i || list_any (λ j. needs i.update j.update) (picked_out p is)
 
-  taken-each : (P : Issue → Type 0) (is : List Issue) → Each P is → Each P (taken p is)
+  taken-each : (P : Issue → Type 0) (is : List Issue) → Each P is → Each P (picked_out p is)
   taken-each P [] h = tt
   taken-each P (i ∷ is) h = go (chosen i is) (taken-each P is h.1)
     where
-      go : (b : Bool) → Each P (taken p is) → Each P (cond b (i ∷ taken p is) (taken p is))
+      go : (b : Bool) → Each P (picked_out p is) → Each P (cond b (i ∷ picked_out p is) (picked_out p is))
       go true r = (h.0, r)
       go false r = r
 
-  pub rest-is : (is : List Issue) → Rising is → rest p is ≡ filter (λ i. not (is_in (taken p is) i.number)) is
+  pub rest-is : (is : List Issue) → Rising is → rest p is ≡ filter (λ i. not (is_in (picked_out p is) i.number)) is
   rest-is [] r = refl
   rest-is (i ∷ is) r = go (chosen i is) (rest-is is r.1)
     where
       ts : List Issue
-      ts = taken p is
+      ts = picked_out p is
 
-      apart : Each (λ j. not (is_in (taken p is) j.number) ≡ not (is_in (i ∷ taken p is) j.number)) is
-      apart = each-map (λ j. i.number < j.number) (λ j. not (is_in (taken p is) j.number) ≡ not (is_in (i ∷ taken p is) j.number)) (λ j l. ap not (sym (ap (λ z. z || is_in (taken p is) j.number) (higher i.number j.number l)))) is r.0
+      apart : Each (λ j. not (is_in (picked_out p is) j.number) ≡ not (is_in (i ∷ picked_out p is) j.number)) is
+      apart = each-map (λ j. i.number < j.number) (λ j. not (is_in (picked_out p is) j.number) ≡ not (is_in (i ∷ picked_out p is) j.number)) (λ j l. ap not (sym (ap (λ z. z || is_in (picked_out p is) j.number) (higher i.number j.number l)))) is r.0
 
-      go : (b : Bool) → rest p is ≡ filter (λ j. not (is_in (taken p is) j.number)) is
-          → cond b (rest p is) (i ∷ rest p is) ≡ filter (λ j. not (is_in (cond b (i ∷ taken p is) (taken p is)) j.number)) (i ∷ is)
+      go : (b : Bool) → rest p is ≡ filter (λ j. not (is_in (picked_out p is) j.number)) is
+          → cond b (rest p is) (i ∷ rest p is) ≡ filter (λ j. not (is_in (cond b (i ∷ picked_out p is) (picked_out p is)) j.number)) (i ∷ is)
       go true q =
-          q ∙ filter-same (λ j. not (is_in (taken p is) j.number)) (λ j. not (is_in (i ∷ taken p is) j.number)) is apart
-          ∙ sym (ap (λ z. cond (not (z || is_in (taken p is) i.number)) (i ∷ filter (λ j. not (is_in (i ∷ taken p is) j.number)) is) (filter (λ j. not (is_in (i ∷ taken p is) j.number)) is)) (itself i.number))
+          q ∙ filter-same (λ j. not (is_in (picked_out p is) j.number)) (λ j. not (is_in (i ∷ picked_out p is) j.number)) is apart
+          ∙ sym (ap (λ z. cond (not (z || is_in (picked_out p is) i.number)) (i ∷ filter (λ j. not (is_in (i ∷ picked_out p is) j.number)) is) (filter (λ j. not (is_in (i ∷ picked_out p is) j.number)) is)) (itself i.number))
       go false q =
           ap (λ l. i ∷ l) q
-          ∙ sym (ap (λ z. cond (not z) (i ∷ filter (λ j. not (is_in (taken p is) j.number)) is) (filter (λ j. not (is_in (taken p is) j.number)) is)) (absent-in i.number (taken p is) (taken-each (λ j. i.number < j.number) is r.0)))
+          ∙ sym (ap (λ z. cond (not z) (i ∷ filter (λ j. not (is_in (picked_out p is) j.number)) is) (filter (λ j. not (is_in (picked_out p is) j.number)) is)) (absent-in i.number (picked_out p is) (taken-each (λ j. i.number < j.number) is r.0)))
 
   -- of an upward set, what is taken is the same with the others and without
-  restrict : (g : ℕ → Bool) (is : List Issue) → IsUpward g is → filter (λ i. g i.number) (taken p is) ≡ taken p (filter (λ i. g i.number) is)
+  restrict : (g : ℕ → Bool) (is : List Issue) → IsUpward g is → filter (λ i. g i.number) (picked_out p is) ≡ picked_out p (filter (λ i. g i.number) is)
   restrict g [] u = refl
   restrict g (i ∷ is) u = go (g i.number) refl (restrict g is u.1)
     where
-      go : (a : Bool) → g i.number ≡ a → filter (λ i. g i.number) (taken p is) ≡ taken p (filter (λ i. g i.number) is)
-          → filter (λ i. g i.number) (cond (chosen i is) (i ∷ taken p is) (taken p is)) ≡ taken p (cond a (i ∷ filter (λ i. g i.number) is) (filter (λ i. g i.number) is))
+      go : (a : Bool) → g i.number ≡ a → filter (λ i. g i.number) (picked_out p is) ≡ picked_out p (filter (λ i. g i.number) is)
+          → filter (λ i. g i.number) (cond (chosen i is) (i ∷ picked_out p is) (picked_out p is)) ≡ picked_out p (cond a (i ∷ filter (λ i. g i.number) is) (filter (λ i. g i.number) is))
       go true e r =
           inner (chosen i is)
-          ∙ ap (λ z. cond (p i || z) (i ∷ taken p (filter (λ i. g i.number) is)) (taken p (filter (λ i. g i.number) is)))
-          (sym (ap (list_any (λ j. needs i.update j.update)) (sym r) ∙ any-filter (λ j. needs i.update j.update) (λ i. g i.number) (taken p is) (taken-each (λ j. T (needs i.update j.update) → T (g j.number)) is (u.0 (holds e)))))
+          ∙ ap (λ z. cond (p i || z) (i ∷ picked_out p (filter (λ i. g i.number) is)) (picked_out p (filter (λ i. g i.number) is)))
+          (sym (ap (list_any (λ j. needs i.update j.update)) (sym r) ∙ any-filter (λ j. needs i.update j.update) (λ i. g i.number) (picked_out p is) (taken-each (λ j. T (needs i.update j.update) → T (g j.number)) is (u.0 (holds e)))))
         where
-          inner : (b : Bool) → filter (λ i. g i.number) (cond b (i ∷ taken p is) (taken p is)) ≡ cond b (i ∷ taken p (filter (λ i. g i.number) is)) (taken p (filter (λ i. g i.number) is))
-          inner true = ap (λ z. cond z (i ∷ filter (λ i. g i.number) (taken p is)) (filter (λ i. g i.number) (taken p is))) e ∙ ap (λ l. i ∷ l) r
+          inner : (b : Bool) → filter (λ i. g i.number) (cond b (i ∷ picked_out p is) (picked_out p is)) ≡ cond b (i ∷ picked_out p (filter (λ i. g i.number) is)) (picked_out p (filter (λ i. g i.number) is))
+          inner true = ap (λ z. cond z (i ∷ filter (λ i. g i.number) (picked_out p is)) (filter (λ i. g i.number) (picked_out p is))) e ∙ ap (λ l. i ∷ l) r
           inner false = r
       go false e r = inner (chosen i is)
         where
-          inner : (b : Bool) → filter (λ i. g i.number) (cond b (i ∷ taken p is) (taken p is)) ≡ taken p (filter (λ i. g i.number) is)
-          inner true = ap (λ z. cond z (i ∷ filter (λ i. g i.number) (taken p is)) (filter (λ i. g i.number) (taken p is))) e ∙ r
+          inner : (b : Bool) → filter (λ i. g i.number) (cond b (i ∷ picked_out p is) (picked_out p is)) ≡ picked_out p (filter (λ i. g i.number) is)
+          inner true = ap (λ z. cond z (i ∷ filter (λ i. g i.number) (picked_out p is)) (filter (λ i. g i.number) (picked_out p is))) e ∙ r
           inner false = r
 
   -- where none of what is taken passes, what passes isn't taken
-  untaken : (t : Issue → Bool) (is : List Issue) → Rising is → list_any t (taken p is) ≡ false → Each (λ j. T (t j) → is_in (taken p is) j.number ≡ false) is
+  untaken : (t : Issue → Bool) (is : List Issue) → Rising is → list_any t (picked_out p is) ≡ false → Each (λ j. T (t j) → is_in (picked_out p is) j.number ≡ false) is
   untaken t [] r f = tt
   untaken t (i ∷ is) r f = go (chosen i is) f (untaken t is r.1)
     where
-      go : (b : Bool) → list_any t (cond b (i ∷ taken p is) (taken p is)) ≡ false → (list_any t (taken p is) ≡ false → Each (λ j. T (t j) → is_in (taken p is) j.number ≡ false) is)
-          → Each (λ j. T (t j) → is_in (cond b (i ∷ taken p is) (taken p is)) j.number ≡ false) (i ∷ is)
+      go : (b : Bool) → list_any t (cond b (i ∷ picked_out p is) (picked_out p is)) ≡ false → (list_any t (picked_out p is) ≡ false → Each (λ j. T (t j) → is_in (picked_out p is) j.number ≡ false) is)
+          → Each (λ j. T (t j) → is_in (cond b (i ∷ picked_out p is) (picked_out p is)) j.number ≡ false) (i ∷ is)
       go true e k = split (t i) refl e
         where
-          split : (x : Bool) → t i ≡ x → (x || list_any t (taken p is)) ≡ false → Each (λ j. T (t j) → is_in (i ∷ taken p is) j.number ≡ false) (i ∷ is)
+          split : (x : Bool) → t i ≡ x → (x || list_any t (picked_out p is)) ≡ false → Each (λ j. T (t j) → is_in (i ∷ picked_out p is) j.number ≡ false) (i ∷ is)
           split true d q = absurd (true≢false q)
           split false d q = (
             λ y. absurd (true≢false (sym (is-true (t i) y) ∙ d)),
-            each-map (λ j. (i.number < j.number) × (T (t j) → is_in (taken p is) j.number ≡ false)) (λ j. T (t j) → is_in (i ∷ taken p is) j.number ≡ false) (λ j h y. ap (λ z. z || is_in (taken p is) j.number) (higher i.number j.number h.0) ∙ h.1 y) is
-                (each-both (λ j. i.number < j.number) (λ j. T (t j) → is_in (taken p is) j.number ≡ false) is r.0 (k q)),
+            each-map (λ j. (i.number < j.number) × (T (t j) → is_in (picked_out p is) j.number ≡ false)) (λ j. T (t j) → is_in (i ∷ picked_out p is) j.number ≡ false) (λ j h y. ap (λ z. z || is_in (picked_out p is) j.number) (higher i.number j.number h.0) ∙ h.1 y) is
+                (each-both (λ j. i.number < j.number) (λ j. T (t j) → is_in (picked_out p is) j.number ≡ false) is r.0 (k q)),
           )
-      go false e k = (λ y. absent-in i.number (taken p is) (taken-each (λ j. i.number < j.number) is r.0), k e)
+      go false e k = (λ y. absent-in i.number (picked_out p is) (taken-each (λ j. i.number < j.number) is r.0), k e)
 
 upward-same : (g h : ℕ → Bool) (is : List Issue) → Each (λ i. g i.number ≡ h i.number) is → IsUpward g is → IsUpward h is
 upward-same g h [] e u = tt
@@ -201,9 +201,9 @@ upward-append g (i ∷ is) js u h = (
 )
 
 -- without what is taken, an upward set is upward
-upward-rest : (p : Issue → Bool) (g : ℕ → Bool) (is : List Issue) → Rising is → IsUpward g is → IsUpward (λ n. g n && not (is_in (taken p is) n)) is
+upward-rest : (p : Issue → Bool) (g : ℕ → Bool) (is : List Issue) → Rising is → IsUpward g is → IsUpward (λ n. g n && not (is_in (picked_out p is) n)) is
 upward-rest p g [] r u = tt
-upward-rest p g (i ∷ is) r u = go (p i || list_any (λ j. needs i.update j.update) (taken p is)) refl (upward-rest p g is r.1 u.1)
+upward-rest p g (i ∷ is) r u = go (p i || list_any (λ j. needs i.update j.update) (picked_out p is)) refl (upward-rest p g is r.1 u.1)
   where
     off : (x y : Bool) → (x || y) ≡ false → y ≡ false
     off true y e = absurd (true≢false e)
@@ -217,31 +217,31 @@ upward-rest p g (i ∷ is) r u = go (p i || list_any (λ j. needs i.update j.upd
     yes true e = absurd (true≢false e)
     yes false e = tt
 
-    go : (b : Bool) → (p i || list_any (λ j. needs i.update j.update) (taken p is)) ≡ b → IsUpward (λ n. g n && not (is_in (taken p is) n)) is → IsUpward (λ n. g n && not (is_in (cond b (i ∷ taken p is) (taken p is)) n)) (i ∷ is)
+    go : (b : Bool) → (p i || list_any (λ j. needs i.update j.update) (picked_out p is)) ≡ b → IsUpward (λ n. g n && not (is_in (picked_out p is) n)) is → IsUpward (λ n. g n && not (is_in (cond b (i ∷ picked_out p is) (picked_out p is)) n)) (i ∷ is)
     go true e k = (
-      λ t. absurd (no (i.number == i.number) (is_in (taken p is) i.number) (itself i.number) (right (g i.number) _ t)),
-      upward-same (λ n. g n && not (is_in (taken p is) n)) (λ n. g n && not (is_in (i ∷ taken p is) n)) is
-          (each-map (λ j. i.number < j.number) (λ j. (g j.number && not (is_in (taken p is) j.number)) ≡ (g j.number && not (is_in (i ∷ taken p is) j.number))) (λ j l. ap (λ z. g j.number && not z) (sym (ap (λ z. z || is_in (taken p is) j.number) (higher i.number j.number l)))) is r.0) k,
+      λ t. absurd (no (i.number == i.number) (is_in (picked_out p is) i.number) (itself i.number) (right (g i.number) _ t)),
+      upward-same (λ n. g n && not (is_in (picked_out p is) n)) (λ n. g n && not (is_in (i ∷ picked_out p is) n)) is
+          (each-map (λ j. i.number < j.number) (λ j. (g j.number && not (is_in (picked_out p is) j.number)) ≡ (g j.number && not (is_in (i ∷ picked_out p is) j.number))) (λ j l. ap (λ z. g j.number && not z) (sym (ap (λ z. z || is_in (picked_out p is) j.number) (higher i.number j.number l)))) is r.0) k,
     )
     go false e k = (
-      λ t. each-map (λ j. (T (needs i.update j.update) → T (g j.number)) × (T (needs i.update j.update) → is_in (taken p is) j.number ≡ false)) (λ j. T (needs i.update j.update) → T (g j.number && not (is_in (taken p is) j.number)))
-          (λ j h n. both (g j.number) _ (h.0 n) (yes (is_in (taken p is) j.number) (h.1 n))) is
-          (each-both (λ j. T (needs i.update j.update) → T (g j.number)) (λ j. T (needs i.update j.update) → is_in (taken p is) j.number ≡ false) is (u.0 (left (g i.number) _ t))
+      λ t. each-map (λ j. (T (needs i.update j.update) → T (g j.number)) × (T (needs i.update j.update) → is_in (picked_out p is) j.number ≡ false)) (λ j. T (needs i.update j.update) → T (g j.number && not (is_in (picked_out p is) j.number)))
+          (λ j h n. both (g j.number) _ (h.0 n) (yes (is_in (picked_out p is) j.number) (h.1 n))) is
+          (each-both (λ j. T (needs i.update j.update) → T (g j.number)) (λ j. T (needs i.update j.update) → is_in (picked_out p is) j.number ≡ false) is (u.0 (left (g i.number) _ t))
           (untaken p (λ j. needs i.update j.update) is r.1 (off (p i) _ e))),
       k,
     )
 
 -- The pending operations behind one more call, among all of the start.
 module _ (p : Issue → Bool) (old all : List Issue) (is : old ≡ filter (λ i. is_in old i.number) all) (up : IsUpward (is_in old) all) (rise : Rising all) where
-  left-is : rest p old ≡ filter (λ i. not (is_in (taken p old) i.number)) old
+  left-is : rest p old ≡ filter (λ i. not (is_in (picked_out p old) i.number)) old
   left-is = rest-is p old (subst Rising (sym is) (rising-filter (λ i. is_in old i.number) all rise))
 
-  pub next-in : (n : ℕ) → is_in (rest p old) n ≡ (is_in old n && not (is_in (taken p all) n))
+  pub next-in : (n : ℕ) → is_in (rest p old) n ≡ (is_in old n && not (is_in (picked_out p all) n))
   next-in n =
       ap (λ l. is_in l n) left-is
-      ∙ by-number (λ m. not (is_in (taken p old) m)) old n
-      ∙ ap (λ z. is_in old n && not z) (ap (λ l. is_in l n) (ap (taken p) is ∙ sym (restrict p (is_in old) all up)) ∙ by-number (is_in old) (taken p all) n)
-      ∙ mix (is_in old n) (is_in (taken p all) n)
+      ∙ by-number (λ m. not (is_in (picked_out p old) m)) old n
+      ∙ ap (λ z. is_in old n && not z) (ap (λ l. is_in l n) (ap (picked_out p) is ∙ sym (restrict p (is_in old) all up)) ∙ by-number (is_in old) (picked_out p all) n)
+      ∙ mix (is_in old n) (is_in (picked_out p all) n)
     where
       mix : (x y : Bool) → (x && not (y && x)) ≡ (x && not y)
       mix true true = refl
@@ -262,10 +262,10 @@ module _ (p : Issue → Bool) (old all : List Issue) (is : old ≡ filter (λ i.
 
     rest-all : filter (λ i. is_in (rest p old) i.number) all ≡ rest p old
     rest-all =
-        filter-same (λ i. is_in (rest p old) i.number) (λ i. is_in old i.number && not (is_in (taken p old) i.number)) all (each-of (λ i. is_in (rest p old) i.number ≡ (is_in old i.number && not (is_in (taken p old) i.number)))
-        (λ i. ap (λ l. is_in l i.number) left-is ∙ by-number (λ m. not (is_in (taken p old) m)) old i.number) all)
-        ∙ sym (filter-twice (λ i. is_in old i.number) (λ i. not (is_in (taken p old) i.number)) all)
-        ∙ ap (filter (λ i. not (is_in (taken p old) i.number))) (sym is)
+        filter-same (λ i. is_in (rest p old) i.number) (λ i. is_in old i.number && not (is_in (picked_out p old) i.number)) all (each-of (λ i. is_in (rest p old) i.number ≡ (is_in old i.number && not (is_in (picked_out p old) i.number)))
+        (λ i. ap (λ l. is_in l i.number) left-is ∙ by-number (λ m. not (is_in (picked_out p old) m)) old i.number) all)
+        ∙ sym (filter-twice (λ i. is_in old i.number) (λ i. not (is_in (picked_out p old) i.number)) all)
+        ∙ ap (filter (λ i. not (is_in (picked_out p old) i.number))) (sym is)
         ∙ sym left-is
 
     pub pending-own : rest p old ++ new ≡ filter (λ i. is_in (rest p old ++ new) i.number) (all ++ new)
@@ -277,12 +277,12 @@ module _ (p : Issue → Bool) (old all : List Issue) (is : old ≡ filter (λ i.
     pub upward-own : IsUpward (is_in (rest p old ++ new)) (all ++ new)
     upward-own =
         upward-append (is_in (rest p old ++ new)) all new
-        (upward-same (λ n. is_in old n && not (is_in (taken p all) n)) (is_in (rest p old ++ new)) all (each-map (λ i. is_in new i.number ≡ false) (λ i. (is_in old i.number && not (is_in (taken p all) i.number)) ≡ is_in (rest p old ++ new) i.number) (λ i e. sym (with-new i.number e ∙ next-in i.number)) all far)
+        (upward-same (λ n. is_in old n && not (is_in (picked_out p all) n)) (is_in (rest p old ++ new)) all (each-map (λ i. is_in new i.number ≡ false) (λ i. (is_in old i.number && not (is_in (picked_out p all) i.number)) ≡ is_in (rest p old ++ new) i.number) (λ i e. sym (with-new i.number e ∙ next-in i.number)) all far)
         (upward-rest p (is_in old) all rise up))
         (each-map (λ i. is_in new i.number ≡ true) (λ i. T (is_in (rest p old ++ new) i.number)) (λ i e. holds (among-new i.number e)) new own)
 
     -- what was pending is so still, or is taken
-    pub pending-next : (n : ℕ) → is_in new n ≡ false → is_in (rest p old ++ new) n ≡ (is_in old n && not (is_in (taken p all) n))
+    pub pending-next : (n : ℕ) → is_in new n ≡ false → is_in (rest p old ++ new) n ≡ (is_in old n && not (is_in (picked_out p all) n))
     pending-next n e = with-new n e ∙ next-in n
 
 -- What is taken is the closure.
@@ -291,15 +291,15 @@ any-numbered : (u : Update) (is : List Issue) → list_any (λ j. needs u j.upda
 any-numbered u [] = refl
 any-numbered u (i ∷ is) = ap (λ z. needs u i.update || z) (any-numbered u is)
 
-pairs-taken : (p : Issue → Bool) (q : ℕ → Bool) (is : List Issue) → Each (λ i. p i ≡ q i.number) is → numbered (taken p is) ≡ closure q (numbered is)
+pairs-taken : (p : Issue → Bool) (q : ℕ → Bool) (is : List Issue) → Each (λ i. p i ≡ q i.number) is → numbered (picked_out p is) ≡ closure q (numbered is)
 pairs-taken p q [] h = refl
 pairs-taken p q (i ∷ is) h =
-    go (p i || list_any (λ j. needs i.update j.update) (taken p is))
-    ∙ ap (λ l. cond (p i || list_any (λ j. needs i.update j.update) (taken p is)) ((i.number, i.update) ∷ l) l) (pairs-taken p q is h.1)
-    ∙ ap (λ b. cond (b || list_any (λ j. needs i.update j.update) (taken p is)) ((i.number, i.update) ∷ closure q (numbered is)) (closure q (numbered is))) h.0
-    ∙ ap (λ b. cond (q i.number || b) ((i.number, i.update) ∷ closure q (numbered is)) (closure q (numbered is))) (any-numbered i.update (taken p is) ∙ ap (list_any (λ y. needs i.update y.1)) (pairs-taken p q is h.1))
+    go (p i || list_any (λ j. needs i.update j.update) (picked_out p is))
+    ∙ ap (λ l. cond (p i || list_any (λ j. needs i.update j.update) (picked_out p is)) ((i.number, i.update) ∷ l) l) (pairs-taken p q is h.1)
+    ∙ ap (λ b. cond (b || list_any (λ j. needs i.update j.update) (picked_out p is)) ((i.number, i.update) ∷ closure q (numbered is)) (closure q (numbered is))) h.0
+    ∙ ap (λ b. cond (q i.number || b) ((i.number, i.update) ∷ closure q (numbered is)) (closure q (numbered is))) (any-numbered i.update (picked_out p is) ∙ ap (list_any (λ y. needs i.update y.1)) (pairs-taken p q is h.1))
   where
-    go : (b : Bool) → numbered (cond b (i ∷ taken p is) (taken p is)) ≡ cond b ((i.number, i.update) ∷ numbered (taken p is)) (numbered (taken p is))
+    go : (b : Bool) → numbered (cond b (i ∷ picked_out p is) (picked_out p is)) ≡ cond b ((i.number, i.update) ∷ numbered (picked_out p is)) (numbered (picked_out p is))
     go true = refl
     go false = refl
 
@@ -319,5 +319,5 @@ passing p (i ∷ is) r = (head (p i) refl, each-map (λ j. (i.number < j.number)
     behind true j l = sym (ap (λ z. z || is_in (filter p is) j.number) (higher i.number j.number l))
     behind false j l = refl
 
-pub taken-closure : (p : Issue → Bool) (is : List Issue) → Rising is → numbers_in (taken p is) ≡ map (λ x. x.0) (closure (λ n. member n (numbers_in (filter p is))) (numbered is))
-taken-closure p is r = numbers-firsts (taken p is) ∙ ap (map (λ x. x.0)) (pairs-taken p (λ n. member n (numbers_in (filter p is))) is (passing p is r))
+pub taken-closure : (p : Issue → Bool) (is : List Issue) → Rising is → numbers_in (picked_out p is) ≡ map (λ x. x.0) (closure (λ n. member n (numbers_in (filter p is))) (numbered is))
+taken-closure p is r = numbers-firsts (picked_out p is) ∙ ap (map (λ x. x.0)) (pairs-taken p (λ n. member n (numbers_in (filter p is))) is (passing p is r))

@@ -8,7 +8,7 @@ use Rattle.std.proofs.lemmas.Bool.Decides.{nat_tests}
 use Rattle.std.proofs.lemmas.List.{length_push, length-set}
 use Rattle.ec_history.specs.History.{same_start}
 use Rattle.ec_judge.specs.declared.carried.Start.{Start}
-use Rattle.ec_judge.specs.Index.{place, IsIndex, SamePlaces}
+use Rattle.ec_judge.specs.Index.{place, IsStartIndex, SamePlaces}
 
 -- One start more, where none of those before it passes, or one does.
 
@@ -58,19 +58,19 @@ same-places ss i s old is sc sb = record {
 abbrev Knows : List Start → ℕ → ℕ → Option ℕ → Type 0
 Knows ss c b x = MatchOption x (place c b ss ≡ length ss) (λ i. (i ≡ place c b ss) × (i < length ss))
 
-pub index-empty : (known : ℕ → ℕ → Option ℕ) → ((c b : ℕ) → known c b ≡ None) → IsIndex known []
+pub index-empty : (known : ℕ → ℕ → Option ℕ) → ((c b : ℕ) → known c b ≡ None) → IsStartIndex known []
 index-empty known e = λ c b. subst (Knows [] c b) (sym (e c b)) refl
 
-pub index-found : (known : ℕ → ℕ → Option ℕ) (ss : List Start) → IsIndex known ss → (c b i : ℕ) → known c b ≡ Some i → (i ≡ place c b ss) × (i < length ss)
+pub index-found : (known : ℕ → ℕ → Option ℕ) (ss : List Start) → IsStartIndex known ss → (c b i : ℕ) → known c b ≡ Some i → (i ≡ place c b ss) × (i < length ss)
 index-found known ss h c b i e = subst (Knows ss c b) e (h c b)
 
-pub index-none : (known : ℕ → ℕ → Option ℕ) (ss : List Start) → IsIndex known ss → (c b : ℕ) → known c b ≡ None → place c b ss ≡ length ss
+pub index-none : (known : ℕ → ℕ → Option ℕ) (ss : List Start) → IsStartIndex known ss → (c b : ℕ) → known c b ≡ None → place c b ss ≡ length ss
 index-none known ss h c b e = subst (Knows ss c b) e (h c b)
 
-pub index-kept : (old new : ℕ → ℕ → Option ℕ) (ss : List Start) → IsIndex old ss → ((c b : ℕ) → new c b ≡ old c b) → IsIndex new ss
+pub index-kept : (old new : ℕ → ℕ → Option ℕ) (ss : List Start) → IsStartIndex old ss → ((c b : ℕ) → new c b ≡ old c b) → IsStartIndex new ss
 index-kept old new ss h e = λ c b. subst (Knows ss c b) (sym (e c b)) (h c b)
 
-pub index-same : (known : ℕ → ℕ → Option ℕ) (old new : List Start) → IsIndex known old → SamePlaces old new → IsIndex known new
+pub index-same : (known : ℕ → ℕ → Option ℕ) (old new : List Start) → IsStartIndex known old → SamePlaces old new → IsStartIndex known new
 index-same known old new h same = λ c b. go c b (known c b) (h c b)
   where
     go : (c b : ℕ) (x : Option ℕ) → Knows old c b x → Knows new c b x
@@ -78,7 +78,7 @@ index-same known old new h same = λ c b. go c b (known c b) (h c b)
     go c b (Some i) k = (k.0 ∙ sym (same.places c b), subst (λ n. i < n) (sym same.count) k.1)
 
 -- one start more
-module _ (known new : ℕ → ℕ → Option ℕ) (ss : List Start) (h : IsIndex known ss) (d f at : ℕ) (s : Start) (none : known d f ≡ None) (at-is : at ≡ length ss) (sc : s.clerk ≡ d) (sb : s.boot ≡ f) where
+module _ (known new : ℕ → ℕ → Option ℕ) (ss : List Start) (h : IsStartIndex known ss) (d f at : ℕ) (s : Start) (none : known d f ≡ None) (at-is : at ≡ length ss) (sc : s.clerk ≡ d) (sb : s.boot ≡ f) where
   own : (c b : ℕ) → same_start c b s.clerk s.boot ≡ ((d == c) && (f == b))
   own c b = ap (λ x. (c == x) && (b == s.boot)) sc ∙ ap (λ x. (c == d) && (b == x)) sb ∙ ap (λ x. x && (b == f)) (flip c d) ∙ ap (λ x. (d == c) && x) (flip b f)
     where
@@ -97,7 +97,7 @@ module _ (known new : ℕ → ℕ → Option ℕ) (ss : List Start) (h : IsIndex
   pub within-new : at < length (ss ++ s ∷ [])
   within-new = let more = length_push ss s in omega (arith, more, at-is)
 
-  pub index-push : ((c b : ℕ) → new c b ≡ cond ((d == c) && (f == b)) (Some at) (known c b)) → IsIndex new (ss ++ s ∷ [])
+  pub index-push : ((c b : ℕ) → new c b ≡ cond ((d == c) && (f == b)) (Some at) (known c b)) → IsStartIndex new (ss ++ s ∷ [])
   index-push is = λ c b. subst (Knows (ss ++ s ∷ []) c b) (sym (is c b)) (go c b ((d == c) && (f == b)) refl (known c b) (h c b))
     where
       go : (c b : ℕ) (m : Bool) → ((d == c) && (f == b)) ≡ m → (x : Option ℕ) → Knows ss c b x → Knows (ss ++ s ∷ []) c b (cond m (Some at) x)

@@ -10,21 +10,21 @@ use Rattle.ec_overlay.specs.Shown.{shown}
 use Rattle.ec_history.specs.History.{Op, updates, is_one_of}
 use Rattle.ec_judge.specs.declared.carried.Kept.{Kept}
 use Rattle.ec_judge.specs.declared.carried.Firm.{Firm}
-use Rattle.ec_judge.specs.Carried.{op_of, ops_of, is_among, AreLaid, IsFront, IsFirm, IsBehind, IsLeft}
+use Rattle.ec_judge.specs.Carried.{op_of, ops_of, is_among, AreLaid, IsFrontKept, IsFirm, IsBehind, IsLeft}
 
 -- two tests that agree on the first operations
-front-same : (q r : Op → Bool) (ks js : List Kept) (n : ℕ) (v : Images) → filter r (ops_of (take n js)) ≡ filter q (ops_of (take n ks)) → IsFront q ks n v → IsFront r js n v
+front-same : (q r : Op → Bool) (ks js : List Kept) (n : ℕ) (v : Images) → filter r (ops_of (take n js)) ≡ filter q (ops_of (take n ks)) → IsFrontKept q ks n v → IsFrontKept r js n v
 front-same q r ks js n v e h = record {
   fits = subst (λ l. Fits formatted (updates l)) (sym e) h.fits;
   same = λ o. h.same o ∙ ap (λ l. after formatted (updates l) o) (sym e);
 }
 
 -- another volume of the same images
-pub front-shown : (q : Op → Bool) (ks : List Kept) (n : ℕ) (v w : Images) → ((o : ℕ) → w o ≡ v o) → IsFront q ks n v → IsFront q ks n w
+pub front-shown : (q : Op → Bool) (ks : List Kept) (n : ℕ) (v w : Images) → ((o : ℕ) → w o ≡ v o) → IsFrontKept q ks n v → IsFrontKept q ks n w
 front-shown q ks n v w e h = record { fits = h.fits; same = λ o. e o ∙ h.same o }
 
-pub front-begins : (q : Op → Bool) (ks : List Kept) (n : ℕ) (v : Images) → n ≡ 0 → ((o : ℕ) → v o ≡ formatted o) → IsFront q ks n v
-front-begins q ks n v e h = subst (λ n. IsFront q ks n v) (sym e) (record { fits = λ o. tt; same = h })
+pub front-begins : (q : Op → Bool) (ks : List Kept) (n : ℕ) (v : Images) → n ≡ 0 → ((o : ℕ) → v o ≡ formatted o) → IsFrontKept q ks n v
+front-begins q ks n v e h = subst (λ n. IsFrontKept q ks n v) (sym e) (record { fits = λ o. tt; same = h })
 
 pub firm-new : (n : ℕ) (v : Images) (ks : List Kept) → ks ≡ [] → n ≡ 0 → ((o : ℕ) → v o ≡ formatted o) → IsFirm ks n v
 firm-new n v ks none e h = record { within = omega (arith, e); front = front-begins (λ k. true) ks n v e h }
@@ -107,7 +107,7 @@ module _ (c b : ℕ) (ns : List ℕ) where
       let left = unlost-take ks n h.within h.unlost in
       record { within = left.1; front = front-same q (λ k. true) ks (filter (λ k. not (is_among c b ns k)) ks) n v (ap (λ l. filter (λ k. true) (ops_of l)) left.0 ∙ sym (unlost-filter (take n ks) h.unlost)) h.front }
 
-  pub left-all : (ks : List Kept) (f : Firm) (n : ℕ) (under : List (ℕ × Image)) → IsFront q ks (length ks) (shown f.volume) → IsBehind c b ns ks n (images under) → f.count ≡ n → f.volume.under ≡ under
+  pub left-all : (ks : List Kept) (f : Firm) (n : ℕ) (under : List (ℕ × Image)) → IsFrontKept q ks (length ks) (shown f.volume) → IsBehind c b ns ks n (images under) → f.count ≡ n → f.volume.under ≡ under
       → AreLaid (filter (λ k. not (is_among c b ns k)) ks) f.count f.volume → IsLeft c b ns ks f
   left-all ks f n under a h count-is under-is laid =
       let whole = take_all (length ks) ks (omega arith) in

@@ -22,7 +22,7 @@ use Rattle.ec_judge.specs.declared.carried.Firm.{Firm}
 use Rattle.ec_judge.proofs.Loops.{front-more, part-front, part-all}
 use Rattle.ec_judge.proofs.Prefixes.{left-all}
 use Rattle.ec_judge.proofs.Volumes.{first-none, or-out, none-some, fits-last}
-use Rattle.ec_judge.specs.Carried.{op_of, ops_of, is_among, is_noted, AreLaid, AreNoted, IsFront, IsFrontAt, IsWholeBeside, IsBehind, IsRestored, IsLeft}
+use Rattle.ec_judge.specs.Carried.{op_of, ops_of, is_among, is_noted, AreLaid, AreNoted, IsFrontKept, IsFrontAt, IsWholeBeside, IsBehind, IsRestored, IsLeft}
 use Rattle.ec_base.proofs.Bools.{first as left, off-of, on as holds, is-true}
 use Rattle.ec_history.proofs.HistoryLemmas.{updates-append}
 use Rattle.ec_laws.proofs.BasesAlike.{each-map}
@@ -188,7 +188,7 @@ module _ (noted : ℕ → Bool) (q : Op → Bool) (ks : List Kept) (i : ℕ) (k 
       fit p false n m h = absurd (true≢false (sym m ∙ off-noted p n))
 
 -- at the end of the operations
-pub whole-front : (noted : ℕ → Bool) (q : Op → Bool) (ks : List Kept) (v : Images) → IsFrontAt noted q ks (length ks) v → IsWholeBeside noted q ks v → IsFront q ks (length ks) v
+pub whole-front : (noted : ℕ → Bool) (q : Op → Bool) (ks : List Kept) (v : Images) → IsFrontAt noted q ks (length ks) v → IsWholeBeside noted q ks v → IsFrontKept q ks (length ks) v
 whole-front noted q ks v f b = record { fits = λ o. fit o (noted o) refl; same = λ o. same o (noted o) refl }
   where
     whole : take (length ks) ks ≡ ks
@@ -402,7 +402,7 @@ module _ (c b : ℕ) (ns : List ℕ) (ks : List Kept) (anew : Bool) (l0 l1 l2 w 
           laid-more ks n0 n l0 w (omega (arith, onward, first)) (λ o t. r.own o (subst T (sym (own-over o ∙ ap (λ l. has_own l o) same.0)) t)) laid
 
   pub left-of : {E : Type 0} (res : Result Bool E) (f : Firm) → f.count ≡ n
-      → IfOk res (λ fits. MatchBool fits (IsFront (λ k. not (is_one_of c b ns k)) ks (length ks) (shown f.volume)) (¬ (Fits formatted (updates (filter (λ k. not (is_one_of c b ns k)) (ops_of ks))))))
+      → IfOk res (λ fits. MatchBool fits (IsFrontKept (λ k. not (is_one_of c b ns k)) ks (length ks) (shown f.volume)) (¬ (Fits formatted (updates (filter (λ k. not (is_one_of c b ns k)) (ops_of ks))))))
       → IfOk res (λ fits. (o : ℕ) → T (has_own w o) → T (has_own f.volume o)) → IfOk res (λ fits. f.volume.under ≡ w.under)
       → IfOk res (λ fits. MatchBool fits (IsLeft c b ns ks f) (¬ (Fits formatted (updates (filter (λ k. not (is_one_of c b ns k)) (ops_of ks))))))
   left-of (Ok true) f count front own under =

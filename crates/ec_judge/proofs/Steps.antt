@@ -40,7 +40,7 @@ use Rattle.ec_owes.specs.Rules.{IsNumbered, KeepsRules, BreaksRule, due_of}
 use Rattle.ec_judge.specs.Asks.{asked_on, asked_by_call}
 use Rattle.ec_judge.specs.Carried as Carried
 use Rattle.ec_judge.specs.Carried.{op_of, ops_of, issue_of, issues_in, is_among, is_start, count_of, owed_of, pending_of, is_covered, IsUpward, IsStart, IsFlagged, IsUncovered, IsUntouched, IsFirm, AreLaid, Carries, Known, touches_in, touched_next, is_touched, AreBelow, count_next, keeps_of, IsFitting, are_kept, are_uncovered, are_closed, BreaksMarks, KeepsMarks}
-use Rattle.ec_pending.specs.Pending.{numbers_in, is_in, is_asked, taken, rest, numbered, issues_of}
+use Rattle.ec_pending.specs.Pending.{numbers_in, is_in, is_asked, picked_out, rest, numbered, issues_of}
 use Rattle.ec_laws.proofs.Issues.{issue-sorted}
 use Rattle.ec_judge.proofs.Numbers.{each-kept, only, unlost, kept-only, kept-unlost, new-uncovered, new-untouched}
 use Rattle.ec_judge.proofs.Flags.{flag-step, through-more, through-front, through-last, touched-one, covered-one}
@@ -203,7 +203,7 @@ module _ (most : ℕ) (past : History) (by : Issuer) (l g : ℕ) (cl : Call) (a 
   rise : Rising all
   rise = rising-from all (subst (λ xs. T (is_sorted nat_cmp xs)) (issue-same by.clerk by.boot (issued F past)) (issue-sorted F most by.clerk by.boot past legal))
 
-  taken-is : numbers_in (taken wants all) ≡ map (λ x. x.0) (closure (λ n. member n (asks F past e)) (of_issue by.clerk by.boot (issued F past)))
+  taken-is : numbers_in (picked_out wants all) ≡ map (λ x. x.0) (closure (λ n. member n (asks F past e)) (of_issue by.clerk by.boot (issued F past)))
   taken-is =
       taken-closure wants all rise
       ∙ ap (λ ms. map (λ x. x.0) (closure (λ n. member n ms) (numbered all))) (sym (asks-same by.clerk by.boot F past by.place l g cl a op))
@@ -216,7 +216,7 @@ module _ (most : ℕ) (past : History) (by : Issuer) (l g : ℕ) (cl : Call) (a 
   module _ (next : IsNext by.clerk by.boot past op) (ss : List Start)
       (pending-are : (c b : ℕ) → pending_of (find (is_start c b) ss) ≡ cond (same_start by.clerk by.boot c b) (rest wants was ++ new) (pending_of (find (is_start c b) j.starts)))
       (ts : Known) (ts-is : (o : ℕ) → ts o ≡ cond (member o out.touched) (Some (touched_next by.clerk by.turn (touches_in j.touches o))) (touches_in j.touches o)) where
-    covered-next : (k : Kept) → IsUpTo by.clerk by.boot (count by.clerk by.boot past) (op_of k) → is_covered ss k ≡ (is_covered j.starts k || is_one_of by.clerk by.boot (numbers_in (taken wants all)) (op_of k))
+    covered-next : (k : Kept) → IsUpTo by.clerk by.boot (count by.clerk by.boot past) (op_of k) → is_covered ss k ≡ (is_covered j.starts k || is_one_of by.clerk by.boot (numbers_in (picked_out wants all)) (op_of k))
     covered-next k up = ap (λ l. not (is_in l k.number)) (pending-are k.clerk k.boot) ∙ go (of_start by.clerk by.boot (op_of k)) refl
       where
         mix : (x y : Bool) → not (x && not y) ≡ (not x || (true && y))
@@ -225,26 +225,26 @@ module _ (most : ℕ) (past : History) (by : Issuer) (l g : ℕ) (cl : Call) (a 
         mix false y = refl
 
         go : (x : Bool) → of_start by.clerk by.boot (op_of k) ≡ x
-            → not (is_in (cond (of_start by.clerk by.boot (op_of k)) (rest wants was ++ new) (pending_of (find (is_start k.clerk k.boot) j.starts))) k.number) ≡ (not (is_in (pending_of (find (is_start k.clerk k.boot) j.starts)) k.number) || (of_start by.clerk by.boot (op_of k) && is_in (taken wants all) k.number))
+            → not (is_in (cond (of_start by.clerk by.boot (op_of k)) (rest wants was ++ new) (pending_of (find (is_start k.clerk k.boot) j.starts))) k.number) ≡ (not (is_in (pending_of (find (is_start k.clerk k.boot) j.starts)) k.number) || (of_start by.clerk by.boot (op_of k) && is_in (picked_out wants all) k.number))
         go true e =
             let parts = and_parts (by.clerk == k.clerk) (by.boot == k.boot) e in
             let own : was ≡ pending_of (find (is_start k.clerk k.boot) j.starts) = ap (λ x. pending_of (find (is_start x by.boot) j.starts)) (eqb-true by.clerk k.clerk parts.0) ∙ ap (λ x. pending_of (find (is_start k.clerk x) j.starts)) (eqb-true by.boot k.boot parts.1) in
             ap (λ x. not (is_in (cond x (rest wants was ++ new) (pending_of (find (is_start k.clerk k.boot) j.starts))) k.number)) e
             ∙ ap not (pending-next wants was all ((h.starts by.clerk by.boot).pending) ((h.starts by.clerk by.boot).upward) rise new (far-all next) (own-new by.place op out.update) k.number (far-new by.clerk by.boot by.place k.number past op out.update next (up e)))
-            ∙ mix (is_in was k.number) (is_in (taken wants all) k.number)
-            ∙ ap (λ l. not (is_in l k.number) || (true && is_in (taken wants all) k.number)) own
-            ∙ sym (ap (λ x. not (is_in (pending_of (find (is_start k.clerk k.boot) j.starts)) k.number) || (x && is_in (taken wants all) k.number)) e)
+            ∙ mix (is_in was k.number) (is_in (picked_out wants all) k.number)
+            ∙ ap (λ l. not (is_in l k.number) || (true && is_in (picked_out wants all) k.number)) own
+            ∙ sym (ap (λ x. not (is_in (pending_of (find (is_start k.clerk k.boot) j.starts)) k.number) || (x && is_in (picked_out wants all) k.number)) e)
         go false e =
             ap (λ x. not (is_in (cond x (rest wants was ++ new) (pending_of (find (is_start k.clerk k.boot) j.starts))) k.number)) e
             ∙ or-none (not (is_in (pending_of (find (is_start k.clerk k.boot) j.starts)) k.number))
-            ∙ sym (ap (λ x. not (is_in (pending_of (find (is_start k.clerk k.boot) j.starts)) k.number) || (x && is_in (taken wants all) k.number)) e)
+            ∙ sym (ap (λ x. not (is_in (pending_of (find (is_start k.clerk k.boot) j.starts)) k.number) || (x && is_in (picked_out wants all) k.number)) e)
 
     flag-next : (k : Kept) → IsFlagged F past j.starts (touches_in j.touches) k → k.turn < by.turn → only (kept F past) (op_of k) → unlost F most past (op_of k) → IsUpTo by.clerk by.boot (count by.clerk by.boot past) (op_of k)
         → IsFlagged F (past ++ e ∷ []) ss ts k
     flag-next k f late o u up = record {
       covered = subst (λ x. MatchBool x (¬ (IsUncovered F (past ++ e ∷ []) (op_of k))) (IsUncovered F (past ++ e ∷ []) (op_of k))) (sym (covered-next k up))
-          (flag-step (IsUncovered F past (op_of k)) (¬ (Covers F past e k.clerk k.boot k.number)) (IsUncovered F (past ++ e ∷ []) (op_of k)) (is_covered j.starts k) (is_one_of by.clerk by.boot (numbers_in (taken wants all)) (op_of k)) f.covered
-          (covered-one F past by.place by.clerk by.boot l g cl a op (numbers_in (taken wants all)) (op_of k) (issue-sorted F most by.clerk by.boot past legal) taken-is u)
+          (flag-step (IsUncovered F past (op_of k)) (¬ (Covers F past e k.clerk k.boot k.number)) (IsUncovered F (past ++ e ∷ []) (op_of k)) (is_covered j.starts k) (is_one_of by.clerk by.boot (numbers_in (picked_out wants all)) (op_of k)) f.covered
+          (covered-one F past by.place by.clerk by.boot l g cl a op (numbers_in (picked_out wants all)) (op_of k) (issue-sorted F most by.clerk by.boot past legal) taken-is u)
           (λ v w. through-more _ past e v w) (λ w. through-front _ past e w) (λ w. through-last _ past e w));
       touched = subst (λ x. MatchBool x (¬ (IsUntouched F (past ++ e ∷ []) (op_of k))) (IsUntouched F (past ++ e ∷ []) (op_of k))) (sym (any-since by.clerk by.turn out.touched (touches_in j.touches) ts ts-is k.clerk k.turn (operands k.update) late))
           (flag-step (IsUntouched F past (op_of k)) (T (leaves F (kept F past) k.clerk (filter (is_one_of k.clerk k.boot (k.number ∷ [])) (kept F past)) e)) (IsUntouched F (past ++ e ∷ []) (op_of k)) (is_touched (touches_in j.touches) k)

@@ -118,14 +118,14 @@ pub record IsFlagged (base : Base) (past : History) (ss : List Start) (ts : Know
   pub touched : MatchBool (is_touched ts k) (¬ (IsUntouched base past (op_of k))) (IsUntouched base past (op_of k))
 
 -- the volume behind those of the first operations that pass, where they fit
-pub record IsFront (q : Op → Bool) (ks : List Kept) (n : ℕ) (v : Images) : Type 0 where
+pub record IsFrontKept (q : Op → Bool) (ks : List Kept) (n : ℕ) (v : Images) : Type 0 where
   pub fits : Fits formatted (updates (filter q (ops_of (take n ks))))
   pub same : (o : ℕ) → v o ≡ after formatted (updates (filter q (ops_of (take n ks)))) o
 
 -- the volume behind the first operations
 pub record IsFirm (ks : List Kept) (n : ℕ) (v : Images) : Type 0 where
   pub within : n ≤ length ks
-  pub front : IsFront (λ k. true) ks n v
+  pub front : IsFrontKept (λ k. true) ks n v
 
 -- each operand of the operations behind the first ones has an image of its own
 abbrev pub AreLaid : List Kept → ℕ → Overlay → Type 0
@@ -134,7 +134,7 @@ AreLaid ks n l = Each (λ k. (o : ℕ) → T (member o (operands k.update)) → 
 -- the same, and none of the first operations is lost
 pub record IsBehind (c b : ℕ) (ns : List ℕ) (ks : List Kept) (n : ℕ) (v : Images) : Type 0 where
   pub within : n ≤ length ks
-  pub front : IsFront (λ k. not (is_one_of c b ns k)) ks n v
+  pub front : IsFrontKept (λ k. not (is_one_of c b ns k)) ks n v
   pub unlost : list_any (is_among c b ns) (take n ks) ≡ false
 
 -- Objects that are shown as the volume below has them again, while the others are shown as before.
@@ -237,7 +237,7 @@ pub record IsWhole (j : Judge) : Type 0 where
   pub laid : AreLaid j.kept.items j.firm.count j.firm.volume
 
 -- an entry can be judged: the volume is well formed, the fresh id of its place is free, and so on
-pub record IsReady (j : Judge) (e : ℕ × Entry) : Type 0 where
+pub record EntryIsReady (j : Judge) (e : ℕ × Entry) : Type 0 where
   pub formed : WellFormed (shown j.firm.volume)
   pub gone : T (is_gone (shown j.firm.volume (1 + e.0)))
   pub bounded : T (is_bounded_entry e.1)

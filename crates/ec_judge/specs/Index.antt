@@ -9,8 +9,8 @@ abbrev pub place : ℕ → ℕ → List Start → ℕ
 place c b ss = position_or_len (λ s. same_start c b s.clerk s.boot) ss
 
 -- the index knows each of these starts, and no other
-abbrev pub IsIndex : (ℕ → ℕ → Option ℕ) → List Start → Type 0
-IsIndex known ss = (c b : ℕ) → MatchOption (known c b) (place c b ss ≡ length ss) (λ i. (i ≡ place c b ss) × (i < length ss))
+abbrev pub IsStartIndex : (ℕ → ℕ → Option ℕ) → List Start → Type 0
+IsStartIndex known ss = (c b : ℕ) → MatchOption (known c b) (place c b ss ≡ length ss) (λ i. (i ≡ place c b ss) × (i < length ss))
 
 -- the same starts at the same places
 pub record SamePlaces (old new : List Start) : Type 0 where

@@ -8,7 +8,7 @@ ghost use Rattle.ec_volume.specs.Volume.{images};
 ghost use Rattle.ec_history.specs.History.{updates, of_issue};
 ghost use Rattle.ec_history.specs.Legal.{from_formatted};
 ghost use Rattle.ec_history.specs.declared.entry.Entry.TheVariants as entry;
-ghost use Rattle.ec_judge.specs.Carried.{Carries, IsReady, IsWhole, Judges, ops_of};
+ghost use Rattle.ec_judge.specs.Carried.{Carries, EntryIsReady, IsWhole, Judges, ops_of};
 
 use crate::carried::{Issuer, Judge};
 use crate::starts::Starts;
@@ -44,7 +44,7 @@ impl Judge {
         entry: &Entry,
     ) -> Result<Option<Rule>, NoMemory>
         requires place { place < 2 ^ 31 }
-        requires ready { IsReady self.old (place, entry.now) }
+        requires ready { EntryIsReady self.old (place, entry.now) }
         ensures { IfOk result (λ found. Judges most turn self.old self.new (place, entry.now) found) }
     {
         match entry {
@@ -80,7 +80,7 @@ impl Judge {
         op: &Option<OpNo>,
     ) -> Result<Option<Rule>, NoMemory>
         requires place { issuer.now.place < 2 ^ 31 }
-        requires ready { (l : ℕ) → IsReady self.old (issuer.now.place, entry.Call issuer.now.clerk issuer.now.boot l begun call.now answer.now op.now) }
+        requires ready { (l : ℕ) → EntryIsReady self.old (issuer.now.place, entry.Call issuer.now.clerk issuer.now.boot l begun call.now answer.now op.now) }
         ensures { IfOk result (λ found. (l : ℕ) → Judges most issuer.now.turn self.old self.new (issuer.now.place, entry.Call issuer.now.clerk issuer.now.boot l begun call.now answer.now op.now) found) }
     {
         let Some(fresh) = ObjId::new(issuer.place + 1) else {

@@ -6,7 +6,7 @@ ghost use Rattle.ec_volume.specs.Volume.{images, formatted, after, Fits};
 ghost use Rattle.ec_overlay.specs.Shown.{shown, has_own};
 ghost use Rattle.ec_overlay.specs.declared.overlay.Overlay.{Overlay as Laid};
 ghost use Rattle.ec_history.specs.History.{updates, is_one_of};
-ghost use Rattle.ec_judge.specs.Carried.{ops_of, is_among, is_noted, AreLaid, AreNoted, IsFront, IsFrontAt, IsWholeBeside, IsFirm, IsBehind, IsRestored, IsLeft};
+ghost use Rattle.ec_judge.specs.Carried.{ops_of, is_among, is_noted, AreLaid, AreNoted, IsFrontKept, IsFrontAt, IsWholeBeside, IsFirm, IsBehind, IsRestored, IsLeft};
 
 use crate::carried::{Firm, Kept};
 use crate::losses::is_among;
@@ -190,7 +190,7 @@ fn carry_on(
     requires within { from ≤ length kept.now }
     requires at { IsFrontAt (is_noted noted.now) (λ k. not (is_one_of clerk boot ops.now k)) kept.now from (shown volume.old) }
     requires beside { IsWholeBeside (is_noted noted.now) (λ k. not (is_one_of clerk boot ops.now k)) kept.now (shown volume.old) }
-    ensures images { IfOk result (λ fits. MatchBool fits (IsFront (λ k. not (is_one_of clerk boot ops.now k)) kept.now (length kept.now) (shown volume.new)) (¬ (Fits formatted (updates (filter (λ k. not (is_one_of clerk boot ops.now k)) (ops_of kept.now)))))) }
+    ensures images { IfOk result (λ fits. MatchBool fits (IsFrontKept (λ k. not (is_one_of clerk boot ops.now k)) kept.now (length kept.now) (shown volume.new)) (¬ (Fits formatted (updates (filter (λ k. not (is_one_of clerk boot ops.now k)) (ops_of kept.now)))))) }
     ensures own { IfOk result (λ fits. (o : ℕ) → T (has_own volume.old o) → T (has_own volume.new o)) }
     ensures under { IfOk result (λ fits. volume.new.under ≡ volume.old.under) }
 {

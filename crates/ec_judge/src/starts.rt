@@ -36,14 +36,14 @@ pub struct Starts {
 impl Model for Starts {
     ghost use Rattle.std.specs.Prelude.{List};
     ghost use Rattle.ec_judge.specs.declared.carried.Start.{Start};
-    ghost use Rattle.ec_judge.specs.Index.{IsIndex};
+    ghost use Rattle.ec_judge.specs.Index.{IsStartIndex};
     ghost use Rattle.ec_numbers.specs.Starts.{indexed};
 
     ghost Value = { List Start };
 
     ghost view = { λ s. s.items.items };
 
-    ghost invariant = { λ s. IsIndex (indexed s.index) s.items.items };
+    ghost invariant = { λ s. IsStartIndex (indexed s.index) s.items.items };
 }
 
 impl Starts {

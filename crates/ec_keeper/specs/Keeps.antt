@@ -6,11 +6,11 @@ use Rattle.ec_store.specs.Store.{IsHeld, StandsForEither, view_of}
 use Rattle.ec_store.specs.declared.store.Store.{Store}
 
 -- Whatever a crash since might have left stands for the state before the record, or for the stepped one.
-abbrev pub Leaves : Record → Store → View → View → Type 0
-Leaves r store before now = LeavesOnly before now (StandsForEither r (view_of store))
+abbrev pub LeavesRecord : Record → Store → View → View → Type 0
+LeavesRecord r store before now = LeavesOnly before now (StandsForEither r (view_of store))
 
 -- behind a record: the disk holds what the store has, whatever a crash leaves
-pub record Keeps (r : Record) (store stepped : Store) (before now : View) : Type 0 where
+pub record KeepsRecord (r : Record) (store stepped : Store) (before now : View) : Type 0 where
   pub held : IsHeld now stepped
   pub synced : IsSynced now
-  pub leaves : Leaves r store before now
+  pub leaves : LeavesRecord r store before now

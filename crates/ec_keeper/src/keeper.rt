@@ -4,7 +4,7 @@ ghost use Rattle.ec_disk.specs.Effects.{Called, Turned};
 ghost use Rattle.ec_durable.specs.Codes.{record_code};
 ghost use Rattle.ec_durable.specs.Durable.{step};
 ghost use Rattle.ec_journal.specs.Journal.{need_of};
-ghost use Rattle.ec_keeper.specs.Keeps.{Keeps, Leaves};
+ghost use Rattle.ec_keeper.specs.Keeps.{KeepsRecord, LeavesRecord};
 ghost use Rattle.ec_layout.specs.Selected.{free_now};
 ghost use Rattle.ec_stands.specs.Stands.{StandsFor};
 ghost use Rattle.ec_store.specs.Store.{IsHeld, view_of};
@@ -41,14 +41,14 @@ impl<D: Disk> Keeper for DiskKeeper<'_, D> {
     ghost did = { λ old change new.
         (new.store.ghost_name ≡ old.store.ghost_name) × (new.disk.ghost_name ≡ old.disk.ghost_name)
         × (step change (view_of old.store.now) ≡ Ok (view_of new.store.now))
-        × (D.tells → IsHeld (D.view old.disk.now) old.store.now → Keeps change old.store.now new.store.now (D.view old.disk.now) (D.view new.disk.now))
+        × (D.tells → IsHeld (D.view old.disk.now) old.store.now → KeepsRecord change old.store.now new.store.now (D.view old.disk.now) (D.view new.disk.now))
         × (need_of (record_code.spell change) ≤ free_now old.store.now.selected → Called 4 (D.counts old.disk.now) (D.counts new.disk.now))
         × ((turns : ℕ) × Turned turns (D.counts old.disk.now).armed (D.counts new.disk.now).armed (Unit {0}) ⊥
         × (need_of (record_code.spell change) ≤ free_now old.store.now.selected → turns ≡ 4) × (free_now old.store.now.selected < need_of (record_code.spell change) → 9 ≤ turns)) };
 
     ghost broke = { λ old change new.
         (new.store.ghost_name ≡ old.store.ghost_name) × (new.disk.ghost_name ≡ old.disk.ghost_name)
-        × (D.tells → IsHeld (D.view old.disk.now) old.store.now → Leaves change old.store.now (D.view old.disk.now) (D.view new.disk.now))
+        × (D.tells → IsHeld (D.view old.disk.now) old.store.now → LeavesRecord change old.store.now (D.view old.disk.now) (D.view new.disk.now))
         × ((turns : ℕ) × Turned turns (D.counts old.disk.now).armed (D.counts new.disk.now).armed ⊥ ⊥ × (need_of (record_code.spell change) ≤ free_now old.store.now.selected → turns ≤ 4))
         × (D.tells → IsHeld (D.view old.disk.now) old.store.now → StandsFor (D.view new.disk.now).synced (view_of old.store.now)) };
 

@@ -20,7 +20,7 @@ use Rattle.ec_coherence.specs.StandLaws.{crashed, lined, stopped}
 use Rattle.ec_lawful.specs.Doubts.{DoubtAgrees, doubted}
 use Rattle.ec_lawful.specs.Founds.{started_in, with_found}
 use Rattle.ec_lawful.proofs.Keeps.{doubts-hold, restarts-hold}
-use Rattle.ec_lawful.specs.Steps.{IsDone, IsServed, StepsKeep, begun, calling, in_call}
+use Rattle.ec_lawful.specs.Steps.{StepIsDone, IsServed, StepsKeep, clerk_begun, calling, in_call}
 use Rattle.ec_lawful.specs.Ties.{called, waiting}
 use Rattle.ec_lawful.specs.Asked.{AsksAgree, IsNoBye}
 use Rattle.ec_lawful.specs.AskedLaws.{RestsKeep, StepsStay}
@@ -64,14 +64,14 @@ module _ (first : ℕ → ℕ) where
   step-agrees g c b d γ o a = doing-agrees g c b d γ a.began a.silent (λ e n q l m. a.stands e n l m) o
 
   -- a start: it's the one that wasn't there
-  start-agrees : (g h : System) (c : ℕ) (d : Doing) (γ : Ghost) → h.first_boot ≡ g.first_boot → h.boots ≡ (begun c g).boots → h.clerks ≡ g.clerks → h.pool ≡ g.pool → Each IsOwn d.outs → Q g → Q (doing_in c (g.boots c + 1) d γ h)
+  start-agrees : (g h : System) (c : ℕ) (d : Doing) (γ : Ghost) → h.first_boot ≡ g.first_boot → h.boots ≡ (clerk_begun c g).boots → h.clerks ≡ g.clerks → h.pool ≡ g.pool → Each IsOwn d.outs → Q g → Q (doing_in c (g.boots c + 1) d γ h)
   start-agrees g h c d γ f b k p o a = doing-agrees h c (g.boots c + 1) d γ (λ e. ap (λ x. x e) f ∙ a.began e) (subst (λ ns. Each (λ m. IsNoBye m.1) ns) (sym p) a.silent)
       (λ e n q l m. subst (λ x. T (is_some (x e n))) (sym k) (a.stands e n (subst (λ x. x e < n) f l) (within e n (e == c) refl q (subst (λ x. n ≤ x e) b m)))) o
     where
       less : (n m : ℕ) → n ≤ m + 1 → (n == m + 1) ≡ false → n ≤ m
       less n m p q = grind arith
 
-      within : (e n : ℕ) (z : Bool) → (e == c) ≡ z → ((e == c) && (n == g.boots c + 1)) ≡ false → n ≤ (begun c g).boots e → n ≤ g.boots e
+      within : (e n : ℕ) (z : Bool) → (e == c) ≡ z → ((e == c) && (n == g.boots c + 1)) ≡ false → n ≤ (clerk_begun c g).boots e → n ≤ g.boots e
       within e n false r q m = subst (λ z. n ≤ elim z as (λ y. ℕ) [ true ↦ g.boots c + 1 | false ↦ g.boots e ]) r m
       within e n true r q m = subst (λ x. n ≤ g.boots x) (sym (equal e c r)) (less n (g.boots c) (subst (λ z. n ≤ elim z as (λ y. ℕ) [ true ↦ g.boots c + 1 | false ↦ g.boots e ]) r m) (sym (ap (λ z. z && (n == g.boots c + 1)) r) ∙ q))
 
@@ -92,11 +92,11 @@ module _ (first : ℕ → ℕ) where
   calls : (g : System) (c b : ℕ) (k : Clerk) (l : ℕ) (cl : Call) → Q g → (γ : Ghost) → Q (doing_in c b (begin cl k) γ (in_call c l cl k g))
   calls g c b k l cl a γ = let s = in-call-same g c l cl k in step-agrees (in_call c l cl k g) c b (begin cl k) γ (begin-own cl k) (same-agree g (in_call c l cl k g) s.first_boot s.boots s.clerks s.pool a)
 
-  starts : (g : System) (c : ℕ) (l : ℕ) (cl : Call) → Q g → let d = start c (g.boots c + 1) in (γ : Ghost) → Q (doing_in c (g.boots c + 1) (calling cl d.outs d.clerk) γ (in_call c l cl d.clerk (begun c g)))
+  starts : (g : System) (c : ℕ) (l : ℕ) (cl : Call) → Q g → let d = start c (g.boots c + 1) in (γ : Ghost) → Q (doing_in c (g.boots c + 1) (calling cl d.outs d.clerk) γ (in_call c l cl d.clerk (clerk_begun c g)))
   starts g c l cl a γ =
       let d = start c (g.boots c + 1) in
-      let s = in-call-same (begun c g) c l cl d.clerk in
-      start-agrees g (in_call c l cl d.clerk (begun c g)) c (calling cl d.outs d.clerk) γ s.first_boot s.boots s.clerks s.pool
+      let s = in-call-same (clerk_begun c g) c l cl d.clerk in
+      start-agrees g (in_call c l cl d.clerk (clerk_begun c g)) c (calling cl d.outs d.clerk) γ s.first_boot s.boots s.clerks s.pool
       (each-more IsOwn d.outs (begin cl d.clerk).outs (start-own c (g.boots c + 1)) (begin-own cl d.clerk)) a
 
   pub steps-stay : (g : System) → Q g → StepsStay first g
@@ -120,7 +120,7 @@ module _ (first : ℕ → ℕ) where
     served g t s a (inl x) = inl x
     served g t s a (inr (γ, u, f)) = inr (γ, u, (f, sends-agree g (serving_in t γ g) refl refl refl t.sent refl s a))
 
-    done : (g h : System) (c b : ℕ) (d : Doing) → ((γ : Ghost) → Q (doing_in c b d γ h)) → IsDone F h c b d → IsDone Both h c b d
+    done : (g h : System) (c b : ℕ) (d : Doing) → ((γ : Ghost) → Q (doing_in c b d γ h)) → StepIsDone F h c b d → StepIsDone Both h c b d
     done g h c b d a (inl x) = inl x
     done g h c b d a (inr (γ, u, f)) = inr (γ, u, (f, a γ))
 
@@ -147,7 +147,7 @@ module _ (first : ℕ → ℕ) where
       pushes = λ g c b k h run is n. done g g c b (push n k) (λ γ. step-agrees g c b (push n k) γ (push-own n k) h.1) (keep.pushes g c b k h.0 run is n);
       resends = λ g c b k h run is. done g g c b (resend k) (λ γ. step-agrees g c b (resend k) γ (resend-own k) h.1) (keep.resends g c b k h.0 run is);
       calls = λ g c b k h run is l cl new bounded. done g (in_call c l cl k g) c b (begin cl k) (calls g c b k l cl h.1) (keep.calls g c b k h.0 run is l cl new bounded);
-      starts = λ g c h idle in_range l cl new bounded unspent. done g (in_call c l cl (start c (g.boots c + 1)).clerk (begun c g)) c (g.boots c + 1) (calling cl (start c (g.boots c + 1)).outs (start c (g.boots c + 1)).clerk)
+      starts = λ g c h idle in_range l cl new bounded unspent. done g (in_call c l cl (start c (g.boots c + 1)).clerk (clerk_begun c g)) c (g.boots c + 1) (calling cl (start c (g.boots c + 1)).outs (start c (g.boots c + 1)).clerk)
           (starts g c l cl h.1) (keep.starts g c h.0 idle in_range l cl new bounded unspent);
       crashes = λ g h c. (keep.crashes g h.0 c, same-agree g (crashed g c) refl refl refl refl h.1);
       nothing = λ g h. (keep.nothing g h.0, same-agree g (lined g Nothing) refl refl refl refl h.1);

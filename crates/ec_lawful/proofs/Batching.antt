@@ -83,7 +83,7 @@ module _ (g : System) (all : AllAgree (bare g)) (c : ℕ) (sl : Slot) (k : Clerk
   now = committed (bare g) i.sessions i.tokens i.logs i.images c s sl k in_slot refl opened there b ns under unmarked
 
   abbrev newslot : Slot
-  newslot = record sl { window = after_mark sl.window b; unspent = less (Rattle.ec_coherence.specs.Log.makes (updates_in ops)) sl.unspent }
+  newslot = record sl { window = after_mark sl.window b; unspent = less (Rattle.ec_coherence.specs.Log.made_by (updates_in ops)) sl.unspent }
 
   abbrev γ' : Ghost
   γ' = show_batch c (sl.age).boot (keys ops) g.ghost

@@ -14,11 +14,11 @@ use Rattle.ec_coherence.specs.Steps.{call_of, doing_in}
 use Rattle.ec_coherence.proofs.ClerkIn.{not-in-it}
 use Rattle.ec_coherence.proofs.Tables.{differs}
 use Rattle.ec_coherence.specs.CommitLaws.{AllAgree}
-use Rattle.ec_coherence.specs.StandLaws.{ClerkStands, GoesOn, IsUnderWay, lined}
+use Rattle.ec_coherence.specs.StandLaws.{ClerkStands, SessionGoesOn, IsUnderWay, lined}
 use Rattle.ec_coherence.proofs.Rests.{rests-stand}
 use Rattle.ec_clerk_steps.specs.Cuts.{CutKnows, CutsAgree}
 use Rattle.ec_clerk_steps.proofs.OutsideChanges.{outside-all}
-use Rattle.ec_lawful.specs.Steps.{IsNew}
+use Rattle.ec_lawful.specs.Steps.{LineIsNew}
 use Rattle.ec_lawful.specs.Ties.{called, waiting}
 use Rattle.ec_clerk_steps.specs.Calls.{CallsAgree}
 use Rattle.ec_clerk_steps.specs.Waits.{AreAtRest, AreInTurn, HasLine}
@@ -31,10 +31,10 @@ use Rattle.ec_lawful.specs.BeginLaws.{HasBegun}
 use Rattle.ec_base.proofs.Numbers.{other-number}
 
 -- a new line is of no call
-pub new-line : (g : System) (l : ℕ) → IsNew g l → IsNewLine g l
+pub new-line : (g : System) (l : ℕ) → LineIsNew g l → IsNewLine g l
 new-line g l new = record { unshown = new.unshown; unused = λ c n j cl x. other-number j l (new.unused c n j cl x) }
 
-module _ (g : System) (all : AllAgree g) (q : CallsAgree g) (rest : AreAtRest g) (c b : ℕ) (k : Clerk) (run : g.running c ≡ Some b) (there : g.clerks c b ≡ Some k) (l : ℕ) (cl : Call) (new : IsNew g l) (bounded : T (is_bounded cl)) where
+module _ (g : System) (all : AllAgree g) (q : CallsAgree g) (rest : AreAtRest g) (c b : ℕ) (k : Clerk) (run : g.running c ≡ Some b) (there : g.clerks c b ≡ Some k) (l : ℕ) (cl : Call) (new : LineIsNew g l) (bounded : T (is_bounded cl)) where
   abbrev n : ℕ
   n = k.calls + 1
 
@@ -50,7 +50,7 @@ module _ (g : System) (all : AllAgree g) (q : CallsAgree g) (rest : AreAtRest g)
   abbrev v : Waiting
   v = record { no = n; call = cl; begun = k.log.next - 1 }
 
-  goes : GoesOn k now
+  goes : SessionGoesOn k now
   goes = record { id = refl; age = refl; session = refl; owed = refl; next = refl }
 
   boot-is : k.age.boot ≡ b

@@ -47,7 +47,7 @@ use Rattle.ec_clerk_steps.proofs.ZerosBehind.{steps-keep}
 use Rattle.ec_clerk_steps.proofs.Sent.{own-full, settle-own}
 use Rattle.ec_lawful.specs.BeginLaws.{HasBegun}
 use Rattle.ec_lawful.proofs.Called.{begun-cuts, has-begun}
-use Rattle.ec_lawful.specs.Steps.{IsDone, IsNew, in_call}
+use Rattle.ec_lawful.specs.Steps.{StepIsDone as IsDone, LineIsNew, in_call}
 use Rattle.ec_lawful.specs.Ties.{called, waiting}
 use Rattle.ec_lawful.specs.Whole.{ShowsAll, Whole}
 use Rattle.ec_lawful.specs.SettleLaws.{Beside, IsLined, TriesAll}
@@ -111,7 +111,7 @@ module _ (g : System) (whole : Whole g) (c l : ℕ) (cl : Call) where
       others = λ f a k e r p. others false f a k e (whole.rest f a k r p);
     }
 
-module _ (g : System) (whole : Whole g) (c b : ℕ) (k : Clerk) (runs : g.running c ≡ Some b) (there : g.clerks c b ≡ Some k) (tries : (h : System) → TriesAll h c b) (l : ℕ) (cl : Call) (new : IsNew g l) (bounded : T (is_bounded cl)) where
+module _ (g : System) (whole : Whole g) (c b : ℕ) (k : Clerk) (runs : g.running c ≡ Some b) (there : g.clerks c b ≡ Some k) (tries : (h : System) → TriesAll h c b) (l : ℕ) (cl : Call) (new : LineIsNew g l) (bounded : T (is_bounded cl)) where
   abbrev n : ℕ
   n = k.calls + 1
 

@@ -32,7 +32,7 @@ use Rattle.ec_protocol.specs.declared.world.WorldFault.{WorldFault}
 use Rattle.ec_protocol.specs.declared.world.WorldFault.TheVariants as fault
 use Rattle.ec_coherence.specs.Steps.{call_of, calls_after, less_call, out_lines}
 use Rattle.ec_coherence.proofs.Tables.{at-put, at-without, same_some}
-use Rattle.ec_lawful.specs.Calls.{AreOf, EachCall, IsOf, Tells}
+use Rattle.ec_lawful.specs.Calls.{AreOf, EachCall, IsOf, TellsLines}
 use Rattle.ec_lawful.proofs.Outs.{Calls, Came, came-out}
 use Rattle.ec_lawful.proofs.Pool.{Sends, sends-all}
 use Rattle.ec_base.proofs.Options.{none_some}
@@ -91,28 +91,28 @@ module _ (P : ℕ → ℕ → Call → Type 0) where
 
   module _ (w : World) (a : AreOf P w) where
     -- nothing of it changed
-    pub quiet-tells : (v : World) → v.calls ≡ w.calls → v.shown ≡ w.shown → Tells P w (moving v)
+    pub quiet-tells : (v : World) → v.calls ≡ w.calls → v.shown ≡ w.shown → TellsLines P w (moving v)
     quiet-tells v q r = record { lines = r ∙ sym (append-nil w.shown); of = record { calls = subst (EachCall P) (sym q) a.calls; shown = subst (EachLine (IsOf P)) (sym r) a.shown } }
 
-    fails-tells : (f : WorldFault) → Tells P w (world.fails f w)
+    fails-tells : (f : WorldFault) → TellsLines P w (world.fails f w)
     fails-tells f = record { lines = sym (append-nil w.shown); of = a }
 
   -- a line more
-  pub line-tells : (w : World) (m : Moving) → Tells P w m → (s : Shown) → IsOf P s → Tells P w (world.show_line s m)
+  pub line-tells : (w : World) (m : Moving) → TellsLines P w m → (s : Shown) → IsOf P s → TellsLines P w (world.show_line s m)
   line-tells w m t s p = record {
     lines = ap (λ x. x ++ s ∷ []) t.lines ∙ append_assoc w.shown m.shown (s ∷ []);
     of = record { calls = t.of.calls; shown = each-line (IsOf P) m.world.shown (s ∷ []) t.of.shown (p, tt) };
   }
 
   -- a change of what isn't a line or a call
-  with-tells : (w : World) (m : Moving) → Tells P w m → (f : World → World) → (f m.world).calls ≡ m.world.calls → (f m.world).shown ≡ m.world.shown → Tells P w (world.with_world f m)
+  with-tells : (w : World) (m : Moving) → TellsLines P w m → (f : World → World) → (f m.world).calls ≡ m.world.calls → (f m.world).shown ≡ m.world.shown → TellsLines P w (world.with_world f m)
   with-tells w m t f q r = record { lines = r ∙ t.lines; of = record { calls = subst (EachCall P) (sym q) t.of.calls; shown = subst (EachLine (IsOf P)) (sym r) t.of.shown } }
 
-  nothing-tells : (w : World) → AreOf P w → Tells P w (world.nothing w)
+  nothing-tells : (w : World) → AreOf P w → TellsLines P w (world.nothing w)
   nothing-tells w a = line-tells w (moving w) (quiet-tells w a w refl refl) show.Nothing tt
 
   -- what comes out of a clerk's step
-  out-tells : (w : World) (c : ℕ) (os : List Out) (m : Moving) → Tells P w m → Tells P w (world.come_out c os m)
+  out-tells : (w : World) (c : ℕ) (os : List Out) (m : Moving) → TellsLines P w m → TellsLines P w (world.come_out c os m)
   out-tells w c os m t =
       let r = came-out c os m in
       let e = out-calls c os m.world.calls t.of.calls in
@@ -121,16 +121,16 @@ module _ (P : ℕ → ℕ → Call → Type 0) where
         of = record { calls = subst (EachCall P) (sym r.calls) e.1; shown = subst (EachLine (IsOf P)) (sym r.lines) (each-line (IsOf P) m.world.shown (out_lines c os m.world.calls) t.of.shown e.0) };
       }
 
-  done-tells : (w : World) (c : ℕ) (d : Doing) (m : Moving) → Tells P w m → (world.clerk_does c d m).fault ≡ None → Tells P w (world.clerk_does c d m)
+  done-tells : (w : World) (c : ℕ) (d : Doing) (m : Moving) → TellsLines P w m → (world.clerk_does c d m).fault ≡ None → TellsLines P w (world.clerk_does c d m)
   done-tells w c d m t f = go d.spent f
     where
       go : (o : Option Counter) → (elim o as (λ z. Moving) [ Some n ↦ world.fails (fault.Spent n) m.world | None ↦ world.come_out c d.outs (world.with_world (λ x. record x { clerks = put c d.clerk x.clerks }) m) ]).fault ≡ None
-          → Tells P w (elim o as (λ z. Moving) [ Some n ↦ world.fails (fault.Spent n) m.world | None ↦ world.come_out c d.outs (world.with_world (λ x. record x { clerks = put c d.clerk x.clerks }) m) ])
+          → TellsLines P w (elim o as (λ z. Moving) [ Some n ↦ world.fails (fault.Spent n) m.world | None ↦ world.come_out c d.outs (world.with_world (λ x. record x { clerks = put c d.clerk x.clerks }) m) ])
       go (Some n) f = absurd (none_some (sym f))
       go None f = out-tells w c d.outs (world.with_world (λ x. record x { clerks = put c d.clerk x.clerks }) m) (with-tells w m t (λ x. record x { clerks = put c d.clerk x.clerks }) refl refl)
 
   -- the server's
-  noted-tells : (w : World) (o : Option Noted) (m : Moving) → Tells P w m → Tells P w (world.show_noted o m)
+  noted-tells : (w : World) (o : Option Noted) (m : Moving) → TellsLines P w m → TellsLines P w (world.show_noted o m)
   noted-tells w None m t = t
   noted-tells w (Some (noted_of.Durable c ns)) m t = line-tells w m t (show.Durable c ns) tt
   noted-tells w (Some (noted_of.Ended c b)) m t = line-tells w m t (world.show_ended c b m.world) (go (is_some (watch c m.world.shown).open_start || world.is_running c b m.world))
@@ -139,34 +139,34 @@ module _ (P : ℕ → ℕ → Call → Type 0) where
       go true = tt
       go false = tt
 
-  goes-tells : (w : World) (t : Serving) (m : Moving) → Tells P w m → Tells P w (world.with_world (world.go_on t) m)
+  goes-tells : (w : World) (t : Serving) (m : Moving) → TellsLines P w m → TellsLines P w (world.with_world (world.go_on t) m)
   goes-tells w t m a =
       let k : Sends (record (m.world) { server = Some t.server; durable = t.server.durable }) (world.go_on t m.world) t.sent = sends-all t.sent (record (m.world) { server = Some t.server; durable = t.server.durable }) in
       with-tells w m a (world.go_on t) k.calls k.shown
 
-  committed-tells : (w v : World) (fate : Fate) (r : Record) (t : Serving) → Tells P w (moving v) → Tells P w (world.committed fate r t v)
+  committed-tells : (w v : World) (fate : Fate) (r : Record) (t : Serving) → TellsLines P w (moving v) → TellsLines P w (world.committed fate r t v)
   committed-tells w v runs r t a = goes-tells w t (world.show_noted (world.noted v.durable r) (moving (record v { records = v.records ++ r ∷ [] })))
       (noted-tells w (world.noted v.durable r) (moving (record v { records = v.records ++ r ∷ [] })) (with-tells w (moving v) a (λ x. record x { records = x.records ++ r ∷ [] }) refl refl))
   committed-tells w v stops_without r t a = line-tells w (moving (world.stop v)) (with-tells w (moving v) a world.stop refl refl) show.Stopped tt
   committed-tells w v stops_with r t a = line-tells w (moving (world.on_disk r (record (world.stop v) { unshown = world.noted v.durable r })))
       (with-tells w (moving v) a (λ x. world.on_disk r (record (world.stop x) { unshown = world.noted x.durable r })) refl refl) show.Stopped tt
 
-  served-tells : (w v : World) (fate : Fate) (t : Serving) → Tells P w (moving v) → (world.served fate t v).fault ≡ None → Tells P w (world.served fate t v)
+  served-tells : (w v : World) (fate : Fate) (t : Serving) → TellsLines P w (moving v) → (world.served fate t v).fault ≡ None → TellsLines P w (world.served fate t v)
   served-tells w v fate t a f = go t.spent f
     where
-      by : (o : Option Record) → Tells P w (world.served_record fate o t v)
+      by : (o : Option Record) → TellsLines P w (world.served_record fate o t v)
       by None = goes-tells w t (moving v) a
       by (Some r) = committed-tells w v fate r t a
 
       go : (o : Option Counter) → (elim o as (λ z. Moving) [ Some n ↦ world.fails (fault.Spent n) v | None ↦ world.served_record fate t.rec t v ]).fault ≡ None
-          → Tells P w (elim o as (λ z. Moving) [ Some n ↦ world.fails (fault.Spent n) v | None ↦ world.served_record fate t.rec t v ])
+          → TellsLines P w (elim o as (λ z. Moving) [ Some n ↦ world.fails (fault.Spent n) v | None ↦ world.served_record fate t.rec t v ])
       go (Some n) f = absurd (none_some (sym f))
       go None f = by t.rec
 
-  pub restart-tells : (fate : Fate) (w : World) → AreOf P w → (world.restart fate w).fault ≡ None → Tells P w (world.restart fate w)
+  pub restart-tells : (fate : Fate) (w : World) → AreOf P w → (world.restart fate w).fault ≡ None → TellsLines P w (world.restart fate w)
   restart-tells fate w a f = go (server.start w.durable).spent f
     where
-      by : (φ : Fate) (t : Serving) → Tells P w (world.restarted φ t w)
+      by : (φ : Fate) (t : Serving) → TellsLines P w (world.restarted φ t w)
       by runs t =
           let m = world.show_line show.Started (world.show_noted w.unshown (moving w)) in
           let b = line-tells w (world.show_noted w.unshown (moving w)) (noted-tells w w.unshown (moving w) (quiet-tells w a w refl refl)) show.Started tt in
@@ -177,26 +177,26 @@ module _ (P : ℕ → ℕ → Call → Type 0) where
       by stops_with t = line-tells w (moving (world.on_disk (record_of.Epoch t.server.durable.epoch) w)) (quiet-tells w a (world.on_disk (record_of.Epoch t.server.durable.epoch) w) refl refl) show.Stopped tt
 
       go : (o : Option Counter) → (elim o as (λ z. Moving) [ Some n ↦ world.fails (fault.Spent n) w | None ↦ world.restarted fate (server.start w.durable) w ]).fault ≡ None
-          → Tells P w (elim o as (λ z. Moving) [ Some n ↦ world.fails (fault.Spent n) w | None ↦ world.restarted fate (server.start w.durable) w ])
+          → TellsLines P w (elim o as (λ z. Moving) [ Some n ↦ world.fails (fault.Spent n) w | None ↦ world.restarted fate (server.start w.durable) w ])
       go (Some n) f = absurd (none_some (sym f))
       go None f = by fate (server.start w.durable)
 
   -- Calls.
 
-  call-on-tells : (w v : World) (c l : ℕ) (cl : Call) (before : List Out) (k : Clerk) → Tells P w (moving v) → P l c cl → (world.call_on c l cl before k v).fault ≡ None → Tells P w (world.call_on c l cl before k v)
+  call-on-tells : (w v : World) (c l : ℕ) (cl : Call) (before : List Out) (k : Clerk) → TellsLines P w (moving v) → P l c cl → (world.call_on c l cl before k v).fault ≡ None → TellsLines P w (world.call_on c l cl before k v)
   call-on-tells w v c l cl before k t p f = go (begin cl k).spent f
     where
-      added : Tells P w (moving (world.add_call c (k.calls + 1) l cl v))
+      added : TellsLines P w (moving (world.add_call c (k.calls + 1) l cl v))
       added = record { lines = t.lines; of = record { calls = put-calls c (k.calls + 1) l cl v.calls t.of.calls p; shown = t.of.shown } }
 
-      waits : (b : Bool) → Tells P w (elim b as (λ z. Moving) [ true ↦ moving (world.add_call c (k.calls + 1) l cl v) | false ↦ world.show_line (show.Waits l c cl) (moving (world.add_call c (k.calls + 1) l cl v)) ])
+      waits : (b : Bool) → TellsLines P w (elim b as (λ z. Moving) [ true ↦ moving (world.add_call c (k.calls + 1) l cl v) | false ↦ world.show_line (show.Waits l c cl) (moving (world.add_call c (k.calls + 1) l cl v)) ])
       waits true = added
       waits false = line-tells w (moving (world.add_call c (k.calls + 1) l cl v)) added (show.Waits l c cl) p
 
       go : (o : Option Counter) → (elim o as (λ z. Moving) [
         | Some s ↦ world.fails (fault.Spent s) v
         | None ↦ world.clerk_does c (record (begin cl k) { outs = before ++ (begin cl k).outs }) (world.show_waits c (k.calls + 1) l cl (begin cl k).outs (moving (world.add_call c (k.calls + 1) l cl v)))
-      ]).fault ≡ None → Tells P w (elim o as (λ z. Moving) [
+      ]).fault ≡ None → TellsLines P w (elim o as (λ z. Moving) [
         | Some s ↦ world.fails (fault.Spent s) v
         | None ↦ world.clerk_does c (record (begin cl k) { outs = before ++ (begin cl k).outs }) (world.show_waits c (k.calls + 1) l cl (begin cl k).outs (moving (world.add_call c (k.calls + 1) l cl v)))
       ])
@@ -204,15 +204,15 @@ module _ (P : ℕ → ℕ → Call → Type 0) where
       go None f = done-tells w c (record (begin cl k) { outs = before ++ (begin cl k).outs }) (world.show_waits c (k.calls + 1) l cl (begin cl k).outs (moving (world.add_call c (k.calls + 1) l cl v)))
           (waits (list_any (world.is_answer_to (k.calls + 1)) (begin cl k).outs)) f
 
-  call-tells : (w : World) → AreOf P w → (c l : ℕ) (cl : Call) → P l c cl → (world.call c l cl w).fault ≡ None → Tells P w (world.call c l cl w)
+  call-tells : (w : World) → AreOf P w → (c l : ℕ) (cl : Call) → P l c cl → (world.call c l cl w).fault ≡ None → TellsLines P w (world.call c l cl w)
   call-tells w a c l cl p f = go (at c w.clerks) f
     where
       starts : (o : Option Counter) → (elim o as (λ z. Moving) [ Some n ↦ world.fails (fault.Spent n) w | None ↦ world.call_on c l cl (start c (world.boot c w + 1)).outs (start c (world.boot c w + 1)).clerk (record w { boots = put c (world.boot c w + 1) w.boots }) ]).fault ≡ None
-          → Tells P w (elim o as (λ z. Moving) [ Some n ↦ world.fails (fault.Spent n) w | None ↦ world.call_on c l cl (start c (world.boot c w + 1)).outs (start c (world.boot c w + 1)).clerk (record w { boots = put c (world.boot c w + 1) w.boots }) ])
+          → TellsLines P w (elim o as (λ z. Moving) [ Some n ↦ world.fails (fault.Spent n) w | None ↦ world.call_on c l cl (start c (world.boot c w + 1)).outs (start c (world.boot c w + 1)).clerk (record w { boots = put c (world.boot c w + 1) w.boots }) ])
       starts (Some n) f = absurd (none_some (sym f))
       starts None f = call-on-tells w (record w { boots = put c (world.boot c w + 1) w.boots }) c l cl (start c (world.boot c w + 1)).outs (start c (world.boot c w + 1)).clerk (quiet-tells w a (record w { boots = put c (world.boot c w + 1) w.boots }) refl refl) p f
 
-      go : (o : Option Clerk) → (elim o as (λ z. Moving) [ Some k ↦ world.call_on c l cl [] k w | None ↦ world.start_and_call c l cl w ]).fault ≡ None → Tells P w (elim o as (λ z. Moving) [ Some k ↦ world.call_on c l cl [] k w | None ↦ world.start_and_call c l cl w ])
+      go : (o : Option Clerk) → (elim o as (λ z. Moving) [ Some k ↦ world.call_on c l cl [] k w | None ↦ world.start_and_call c l cl w ]).fault ≡ None → TellsLines P w (elim o as (λ z. Moving) [ Some k ↦ world.call_on c l cl [] k w | None ↦ world.start_and_call c l cl w ])
       go (Some k) f = call-on-tells w w c l cl [] k (quiet-tells w a w refl refl) p f
       go None f = starts (start c (world.boot c w + 1)).spent f
 
@@ -222,76 +222,76 @@ module _ (P : ℕ → ℕ → Call → Type 0) where
   MayBe (event.Call c l cl) = P l c cl
   MayBe _ = ⊤
 
-  choose : (w : World) (b : Bool) (m n : Moving) → Tells P w m → Tells P w n → Tells P w (elim b as (λ z. Moving) [ true ↦ m | false ↦ n ])
+  choose : (w : World) (b : Bool) (m n : Moving) → TellsLines P w m → TellsLines P w n → TellsLines P w (elim b as (λ z. Moving) [ true ↦ m | false ↦ n ])
   choose w true m n x y = x
   choose w false m n x y = y
 
-  kept-tells : (n : ℕ) (m : Moving) (w : World) → Tells P w m → (world.kept_or n m w).fault ≡ None → Tells P w (world.kept_or n m w)
+  kept-tells : (n : ℕ) (m : Moving) (w : World) → TellsLines P w m → (world.kept_or n m w).fault ≡ None → TellsLines P w (world.kept_or n m w)
   kept-tells n m w t f = go (at n w.pool) f
     where
-      go : (o : Option Sent) → (elim o as (λ z. Moving) [ None ↦ world.fails fault.NoSuchMsg w | Some s ↦ m ]).fault ≡ None → Tells P w (elim o as (λ z. Moving) [ None ↦ world.fails fault.NoSuchMsg w | Some s ↦ m ])
+      go : (o : Option Sent) → (elim o as (λ z. Moving) [ None ↦ world.fails fault.NoSuchMsg w | Some s ↦ m ]).fault ≡ None → TellsLines P w (elim o as (λ z. Moving) [ None ↦ world.fails fault.NoSuchMsg w | Some s ↦ m ])
       go None f = absurd (none_some (sym f))
       go (Some s) f = t
 
-  pub deliver-tells : (fate : Fate) (n : ℕ) (w : World) → AreOf P w → (world.deliver fate n w).fault ≡ None → Tells P w (world.deliver fate n w)
+  pub deliver-tells : (fate : Fate) (n : ℕ) (w : World) → AreOf P w → (world.deliver fate n w).fault ≡ None → TellsLines P w (world.deliver fate n w)
   deliver-tells fate n w a f = go (at n w.pool) f
     where
-      to-clerk : (s : Sent) (o : Option Clerk) → (world.to_clerk s.clerk s.msg o (world.settled n w)).fault ≡ None → Tells P w (world.to_clerk s.clerk s.msg o (world.settled n w))
+      to-clerk : (s : Sent) (o : Option Clerk) → (world.to_clerk s.clerk s.msg o (world.settled n w)).fault ≡ None → TellsLines P w (world.to_clerk s.clerk s.msg o (world.settled n w))
       to-clerk s None f = quiet-tells w a (world.settled n w) refl refl
       to-clerk s (Some k) f = done-tells w s.clerk (take_message s.msg k) (moving (world.settled n w)) (quiet-tells w a (world.settled n w) refl refl) f
 
-      to-server : (s : Sent) (o : Option Server) → (world.to_server fate n s o w).fault ≡ None → Tells P w (world.to_server fate n s o w)
+      to-server : (s : Sent) (o : Option Server) → (world.to_server fate n s o w).fault ≡ None → TellsLines P w (world.to_server fate n s o w)
       to-server s None f = nothing-tells w a
       to-server s (Some v) f = served-tells w (world.settled n w) fate (server.take s.clerk s.msg v) (quiet-tells w a (world.settled n w) refl refl) f
 
       to : (s : Sent) (b : Bool) → (elim b as (λ z. Moving) [ true ↦ world.to_server fate n s w.server w | false ↦ world.to_clerk s.clerk s.msg (at s.clerk w.clerks) (world.settled n w) ]).fault ≡ None
-          → Tells P w (elim b as (λ z. Moving) [ true ↦ world.to_server fate n s w.server w | false ↦ world.to_clerk s.clerk s.msg (at s.clerk w.clerks) (world.settled n w) ])
+          → TellsLines P w (elim b as (λ z. Moving) [ true ↦ world.to_server fate n s w.server w | false ↦ world.to_clerk s.clerk s.msg (at s.clerk w.clerks) (world.settled n w) ])
       to s true f = to-server s w.server f
       to s false f = to-clerk s (at s.clerk w.clerks) f
 
-      go : (o : Option Sent) → (elim o as (λ z. Moving) [ None ↦ world.fails fault.NoSuchMsg w | Some s ↦ world.deliver_to fate n s w ]).fault ≡ None → Tells P w (elim o as (λ z. Moving) [ None ↦ world.fails fault.NoSuchMsg w | Some s ↦ world.deliver_to fate n s w ])
+      go : (o : Option Sent) → (elim o as (λ z. Moving) [ None ↦ world.fails fault.NoSuchMsg w | Some s ↦ world.deliver_to fate n s w ]).fault ≡ None → TellsLines P w (elim o as (λ z. Moving) [ None ↦ world.fails fault.NoSuchMsg w | Some s ↦ world.deliver_to fate n s w ])
       go None f = absurd (none_some (sym f))
       go (Some s) f = to s (world.is_for_server s) f
 
-  push-tells : (w : World) → AreOf P w → (c n : ℕ) (o : Option Clerk) → (world.push c n o w).fault ≡ None → Tells P w (world.push c n o w)
+  push-tells : (w : World) → AreOf P w → (c n : ℕ) (o : Option Clerk) → (world.push c n o w).fault ≡ None → TellsLines P w (world.push c n o w)
   push-tells w a c n None f = absurd (none_some (sym f))
   push-tells w a c n (Some k) f = go (has_issued n k) f
     where
-      may : (b : Bool) → (elim b as (λ z. Moving) [ true ↦ world.clerk_does c (push n k) (moving w) | false ↦ world.nothing w ]).fault ≡ None → Tells P w (elim b as (λ z. Moving) [ true ↦ world.clerk_does c (push n k) (moving w) | false ↦ world.nothing w ])
+      may : (b : Bool) → (elim b as (λ z. Moving) [ true ↦ world.clerk_does c (push n k) (moving w) | false ↦ world.nothing w ]).fault ≡ None → TellsLines P w (elim b as (λ z. Moving) [ true ↦ world.clerk_does c (push n k) (moving w) | false ↦ world.nothing w ])
       may true f = done-tells w c (push n k) (moving w) (quiet-tells w a w refl refl) f
       may false f = nothing-tells w a
 
       go : (b : Bool) → (elim b as (λ z. Moving) [ false ↦ world.fails fault.NoSuchOp w | true ↦ elim (world.is_undurable c n w) as (λ z. Moving) [ true ↦ world.clerk_does c (push n k) (moving w) | false ↦ world.nothing w ] ]).fault ≡ None
-          → Tells P w (elim b as (λ z. Moving) [ false ↦ world.fails fault.NoSuchOp w | true ↦ elim (world.is_undurable c n w) as (λ z. Moving) [ true ↦ world.clerk_does c (push n k) (moving w) | false ↦ world.nothing w ] ])
+          → TellsLines P w (elim b as (λ z. Moving) [ false ↦ world.fails fault.NoSuchOp w | true ↦ elim (world.is_undurable c n w) as (λ z. Moving) [ true ↦ world.clerk_does c (push n k) (moving w) | false ↦ world.nothing w ] ])
       go false f = absurd (none_some (sym f))
       go true f = may (world.is_undurable c n w) f
 
-  end-tells : (fate : Fate) (w : World) → AreOf P w → (c : ℕ) (o : Option Server) → (world.end fate c o w).fault ≡ None → Tells P w (world.end fate c o w)
+  end-tells : (fate : Fate) (w : World) → AreOf P w → (c : ℕ) (o : Option Server) → (world.end fate c o w).fault ≡ None → TellsLines P w (world.end fate c o w)
   end-tells fate w a c None f = nothing-tells w a
   end-tells fate w a c (Some v) f = go (is_open (slot v.durable c)) f
     where
-      go : (b : Bool) → (elim b as (λ z. Moving) [ true ↦ world.served fate (server.end c v) w | false ↦ world.nothing w ]).fault ≡ None → Tells P w (elim b as (λ z. Moving) [ true ↦ world.served fate (server.end c v) w | false ↦ world.nothing w ])
+      go : (b : Bool) → (elim b as (λ z. Moving) [ true ↦ world.served fate (server.end c v) w | false ↦ world.nothing w ]).fault ≡ None → TellsLines P w (elim b as (λ z. Moving) [ true ↦ world.served fate (server.end c v) w | false ↦ world.nothing w ])
       go true f = served-tells w w fate (server.end c v) (quiet-tells w a w refl refl) f
       go false f = nothing-tells w a
 
-  resend-tells : (w : World) → AreOf P w → (c : ℕ) (o : Option Clerk) → (world.resend c o w).fault ≡ None → Tells P w (world.resend c o w)
+  resend-tells : (w : World) → AreOf P w → (c : ℕ) (o : Option Clerk) → (world.resend c o w).fault ≡ None → TellsLines P w (world.resend c o w)
   resend-tells w a c None f = nothing-tells w a
   resend-tells w a c (Some k) f = done-tells w c (resend k) (moving w) (quiet-tells w a w refl refl) f
 
-  crash-tells : (w : World) → AreOf P w → (c : ℕ) (o : Option Clerk) → Tells P w (world.crash c o w)
+  crash-tells : (w : World) → AreOf P w → (c : ℕ) (o : Option Clerk) → TellsLines P w (world.crash c o w)
   crash-tells w a c None = nothing-tells w a
   crash-tells w a c (Some k) = line-tells w (moving (record w { clerks = without c w.clerks; calls = without c w.calls }))
       (record { lines = sym (append-nil w.shown); of = record { calls = none-calls c w.calls a.calls; shown = a.shown } }) (show.Crashed c) tt
 
-  stop-tells : (w : World) → AreOf P w → (o : Option Server) → Tells P w (world.stop_server o w)
+  stop-tells : (w : World) → AreOf P w → (o : Option Server) → TellsLines P w (world.stop_server o w)
   stop-tells w a None = nothing-tells w a
   stop-tells w a (Some v) = line-tells w (moving (world.stop w)) (quiet-tells w a (world.stop w) refl refl) show.Stopped tt
 
-  up-tells : (fate : Fate) (w : World) → AreOf P w → (o : Option Server) → (world.restart_server fate o w).fault ≡ None → Tells P w (world.restart_server fate o w)
+  up-tells : (fate : Fate) (w : World) → AreOf P w → (o : Option Server) → (world.restart_server fate o w).fault ≡ None → TellsLines P w (world.restart_server fate o w)
   up-tells fate w a (Some v) f = nothing-tells w a
   up-tells fate w a None f = restart-tells fate w a f
 
-  pub event-tells : (fate : Fate) (e : Event) (w : World) → AreOf P w → MayBe e → (world.happen fate e w).fault ≡ None → Tells P w (world.happen fate e w)
+  pub event-tells : (fate : Fate) (e : Event) (w : World) → AreOf P w → MayBe e → (world.happen fate e w).fault ≡ None → TellsLines P w (world.happen fate e w)
   event-tells fate (event.Call c l cl) w a p f = call-tells w a c l cl p f
   event-tells fate (event.Push c n) w a p f = push-tells w a c n (at c w.clerks) f
   event-tells fate (event.Resend c) w a p f = resend-tells w a c (at c w.clerks) f

@@ -12,7 +12,7 @@ use Rattle.ec_coherence.proofs.Needs.{each-of}
 use Rattle.ec_clerk_steps.specs.Frees.{IsFull}
 use Rattle.ec_clerk_steps.specs.Fulls.{IsFullAt}
 use Rattle.ec_clerk_steps.proofs.Sent.{own-full, resend-own}
-use Rattle.ec_lawful.specs.Steps.{IsDone}
+use Rattle.ec_lawful.specs.Steps.{StepIsDone}
 use Rattle.ec_lawful.specs.Whole.{ShowsAll, Whole}
 use Rattle.ec_lawful.proofs.Runs.{ClerksKeep}
 use Rattle.ec_lawful.specs.SettleLaws.{IsLined}
@@ -34,13 +34,13 @@ abbrev Q : System → ℕ → ℕ → Doing → Ghost → Type 0
 Q g c b d γ = ShowsAll (doing_in c b d γ g)
 
 module _ (g : System) (whole : Whole g) (c b : ℕ) (k : Clerk) (runs : g.running c ≡ Some b) (there : g.clerks c b ≡ Some k) where
-  refused : (s e ask live reserved : ℕ) → Contains g.pool (c, NoRoom s e ask live reserved) → is_session ask k.asking ≡ true → IsDone Whole g c b (take (NoRoom s e ask live reserved) k)
+  refused : (s e ask live reserved : ℕ) → Contains g.pool (c, NoRoom s e ask live reserved) → is_session ask k.asking ≡ true → StepIsDone Whole g c b (take (NoRoom s e ask live reserved) k)
   refused s e ask live reserved sent asked = by k.session refl
     where
       first : IsLined g c b (doing k) g.ghost
       first = begins g whole c b k runs there
 
-      by : (o : Option ℕ) → k.session ≡ o → IsDone Whole g c b (take (NoRoom s e ask live reserved) k)
+      by : (o : Option ℕ) → k.session ≡ o → StepIsDone Whole g c b (take (NoRoom s e ask live reserved) k)
       by None p = absurd (apart (sym (ap (is_session ask) (((whole.all).0).sessions.without c b k there p).asking) ∙ asked))
         where
           apart : false ≡ true → ⊥
@@ -50,10 +50,10 @@ module _ (g : System) (whole : Whole g) (c b : ℕ) (k : Clerk) (runs : g.runnin
           (record { trying = first.trying; lines = first.lines; also = first.shows }) u p (λ t. same-shows g c b (doing k) (unasked (doing k)) g.ghost first.trying (all-in g c b (unasked (doing k)) g.ghost (forgets g c b u (doing k) g.ghost first.trying p first.lines).0) (refl, refl, refl) t) ask in
           settling.takes g whole c b k runs there (tries-show g c b) (NoRoom s e ask live reserved) r.0 (record { trying = (r.1).trying; lines = (r.1).lines; shows = (r.1).also })
 
-  messages : (m : Msg) → Contains g.pool (c, m) → IsDone Whole g c b (take m k)
+  messages : (m : Msg) → Contains g.pool (c, m) → StepIsDone Whole g c b (take m k)
   messages (NoRoom s e ask live reserved) p = go (is_session ask k.asking) refl
     where
-      go : (z : Bool) → is_session ask k.asking ≡ z → IsDone Whole g c b (take (NoRoom s e ask live reserved) k)
+      go : (z : Bool) → is_session ask k.asking ≡ z → StepIsDone Whole g c b (take (NoRoom s e ask live reserved) k)
       go true q = refused s e ask live reserved p q
       go false q = messages-done g whole c b k runs there (tries-show g c b) (NoRoom s e ask live reserved) p q
   messages (Hello a x) p = messages-done g whole c b k runs there (tries-show g c b) (Hello a x) p tt
@@ -72,7 +72,7 @@ module _ (g : System) (whole : Whole g) (c b : ℕ) (k : Clerk) (runs : g.runnin
   messages (Claim s e l) p = messages-done g whole c b k runs there (tries-show g c b) (Claim s e l) p tt
   messages (Bye s e) p = messages-done g whole c b k runs there (tries-show g c b) (Bye s e) p tt
 
-  resends : IsDone Whole g c b (resend k)
+  resends : StepIsDone Whole g c b (resend k)
   resends = resends-keep g whole c b k runs there (each-more (λ m. IsFullAt g.durable.max_objects m.1) g.pool (sends c (resend k).outs) whole.fulls (own-full c g.durable.max_objects (resend k).outs (resend-own k)))
 
 pub clerks-keep-all : ClerksKeep Whole

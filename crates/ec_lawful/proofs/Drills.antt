@@ -30,10 +30,10 @@ use Rattle.ec_coherence.proofs.Tables.{same_some}
 use Rattle.ec_lawful.proofs.Pool.{sends-all}
 use Rattle.ec_coherence.specs.StandLaws.{lined}
 use Rattle.ec_lawful.specs.Headline.{Lines, Pieces, joined}
-use Rattle.ec_lawful.specs.Calls.{AreOf, EachCall, IsOf, Tells}
+use Rattle.ec_lawful.specs.Calls.{AreOf, EachCall, IsOf, TellsLines}
 use Rattle.ec_lawful.specs.Drills.{lines_in}
 use Rattle.ec_lawful.specs.DrillRuns.{AreFit, Closed, Comes, IsCallIn, IsFit, IsUnspent, Sofar}
-use Rattle.ec_lawful.specs.Steps.{Holds, IsNewIn, MayHappen, StepsKeep}
+use Rattle.ec_lawful.specs.Steps.{HoldsIn, IsNewIn, MayHappen, StepsKeep}
 use Rattle.ec_lawful.proofs.CallsShown.{MayBe, deliver-tells, event-tells, line-tells, quiet-tells, restart-tells}
 use Rattle.ec_lawful.proofs.Events.{deliver-holds, event-holds, restart-holds}
 use Rattle.ec_lawful.proofs.Frames.{forgotten-stands, lined-stands}
@@ -118,8 +118,8 @@ new-line lines w a = record { unshown = not-numbered lines w.shown a.shown; unus
 module _ (F : System → Type 0) (keep : StepsKeep F) where
   -- Steps from a world.
   record Moves (P : ℕ → ℕ → Call → Type 0) (w : World) (m : Moving) : Type 0 where
-    holds : Holds F m.world
-    tells : Tells P w m
+    holds : HoldsIn F m.world
+    tells : TellsLines P w m
 
   module _ (P : ℕ → ℕ → Call → Type 0) (w : World) where
     onward-moves : (m n : Moving) → Moves P w m → (n.fault ≡ None → Moves P m.world n) → Moves P w (onward m n)
@@ -137,7 +137,7 @@ module _ (F : System → Type 0) (keep : StepsKeep F) where
     unsettled-moves : (m : Moving) → Moves P w m → Moves P w (show_line show.Unsettled m)
     unsettled-moves m a = record { holds = more (a.holds); tells = line-tells P w m a.tells show.Unsettled tt }
       where
-        more : Holds F m.world → Holds F (show_line show.Unsettled m).world
+        more : HoldsIn F m.world → HoldsIn F (show_line show.Unsettled m).world
         more (g, h, st) = (lined g show.Unsettled, keep.unsettled g h, lined-stands m.world g st show.Unsettled)
 
     settle-moves : (k : ℕ) (fates : Fates) (m : Moving) → Moves P w m → Moves P w (settle k fates m)
@@ -167,7 +167,7 @@ module _ (F : System → Type 0) (keep : StepsKeep F) where
         go (Some n) more = on n (onward m (world.deliver (this_fate fates) n m.world)).fault more
 
   -- The event of a line, which is the next of the script.
-  module _ (lines : Lines) (w : World) (holds : Holds F w) (of : AreOf (IsCallIn lines) w) (column : ℕ) where
+  module _ (lines : Lines) (w : World) (holds : HoldsIn F w) (of : AreOf (IsCallIn lines) w) (column : ℕ) where
     abbrev Goes : Line → Moving → Type 0
     Goes l m = m.fault ≡ None → Moves (IsCallIn (lines ++ l ∷ [])) w m
 
@@ -257,7 +257,7 @@ module _ (F : System → Type 0) (keep : StepsKeep F) where
       forgotten : Sofar F (lines ++ l ∷ []) (pieces ++ (carry k fs lines l w).shown ∷ []) (forget (carry k fs lines l w).world)
       forgotten = record { holds = less moved.holds; of = record { calls = (moved.of).calls; shown = (moved.of).shown }; shown = moved.shown }
         where
-          less : Holds F (carry k fs lines l w).world → Holds F (forget (carry k fs lines l w).world)
+          less : HoldsIn F (carry k fs lines l w).world → HoldsIn F (forget (carry k fs lines l w).world)
           less (g, h, st) = (g, h, forgotten-stands (carry k fs lines l w).world g st)
 
       rest : (b : Bool) → (Sofar F (lines ++ l ∷ []) (pieces ++ (carry k fs lines l w).shown ∷ []) (forget (carry k fs lines l w).world)
@@ -359,7 +359,7 @@ module _ (F : System → Type 0) (keep : StepsKeep F) where
       by (BadLine n k) q = stopped r.world.server refl
       by (TooMany n) q = stopped r.world.server refl
 
-  pub drills-on : (ls : List Read) (fs : List Fates) (w : World) → Holds F w → w.calls ≡ [] → w.shown ≡ [] → AreFit ls → let ran = run_from (bound ls) 1 ls fs w in Closed F [] [] ls (close ran.ending ran)
+  pub drills-on : (ls : List Read) (fs : List Fates) (w : World) → HoldsIn F w → w.calls ≡ [] → w.shown ≡ [] → AreFit ls → let ran = run_from (bound ls) 1 ls fs w in Closed F [] [] ls (close ran.ending ran)
   drills-on ls fs w h q r p = closes [] [] ls (run_from (bound ls) 1 ls fs w) (runs-on (bound ls) ls fs [] [] w record {
     holds = h;
     of = record { calls = λ c n l cl x. absurd (none_some (sym (ap (λ y. call_of c n y) q) ∙ x)); shown = subst (EachLine (IsOf (IsCallIn []))) (sym r) tt };

@@ -22,16 +22,16 @@ use Rattle.ec_coherence.specs.System.{System}
 use Rattle.ec_coherence.specs.Steps.{Stands, call_of}
 use Rattle.ec_coherence.specs.StandLaws.{lined}
 use Rattle.ec_lawful.specs.Headline.{AreEndsAsked, ArePieces, IsPiece, Lines, Pieces, joined, may_end}
-use Rattle.ec_lawful.specs.Calls.{AreOf, IsOf, Tells}
+use Rattle.ec_lawful.specs.Calls.{AreOf, IsOf, TellsLines}
 use Rattle.ec_lawful.specs.Drills.{lines_in}
 use Rattle.ec_lawful.specs.DrillRuns.{AreFit, IsCallIn, IsFit, Sofar}
-use Rattle.ec_lawful.specs.Steps.{Holds, IsNewIn, MayHappen, StepsKeep}
+use Rattle.ec_lawful.specs.Steps.{HoldsIn, IsNewIn, MayHappen, StepsKeep}
 use Rattle.ec_lawful.proofs.CallsShown.{MayBe, deliver-tells, event-tells, line-tells, quiet-tells, restart-tells}
 use Rattle.ec_lawful.proofs.Drills.{drills-on, more-call, slice-last}
 use Rattle.ec_lawful.proofs.Events.{deliver-holds, event-holds, restart-holds}
 use Rattle.ec_lawful.proofs.Frames.{forgotten-stands, lined-stands}
 use Rattle.ec_lawful.specs.Asked.{AsksAgree, EndsAsked, allows, asked_by, ended_by, with_event}
-use Rattle.ec_lawful.specs.AskedLaws.{Asks, CallsLined, IsFresh, RestsKeep, RunAsks}
+use Rattle.ec_lawful.specs.AskedLaws.{StandsAsked, CallsLined, IsFresh, RestsKeep, RunAsks}
 use Rattle.ec_lawful.proofs.Numbers.{IsKnown, Two, behind-lines, known-piece, one-lines, other-lines, own-known, pieces-push, two-lines}
 use Rattle.ec_lawful.proofs.Opened.{opened-agrees, opened-asks}
 use Rattle.ec_lawful.proofs.Agreeing.{asks-keep}
@@ -94,21 +94,21 @@ module _ (first : ℕ → ℕ) (F : System → Type 0) (keep : StepsKeep F) (res
   both : StepsKeep Both
   both = asks-keep first F keep rest
 
-  asks-hold : (w : World) → Holds Both w → Holds (Asks first) w
+  asks-hold : (w : World) → HoldsIn Both w → HoldsIn (StandsAsked first) w
   asks-hold w (g, h, st) = (g, (keep.agrees g h.0, h.1), st)
 
   -- each call under way has its line
-  holds-lined : (w : World) → Holds Both w → (c n l : ℕ) (cl : Call) → call_of c n w.calls ≡ Some (l, cl) → list_any (is_numbered l) w.shown ≡ true
+  holds-lined : (w : World) → HoldsIn Both w → (c n l : ℕ) (cl : Call) → call_of c n w.calls ≡ Some (l, cl) → list_any (is_numbered l) w.shown ≡ true
   holds-lined w (g, h, st) c n l cl q = ap (list_any (is_numbered l)) st.shown ∙ has-line g h.0 c n l cl (sym (ap (call_of c n) st.calls) ∙ q)
 
   -- so it is known before a line of this number
-  all-known : (w : World) → Holds Both w → (k : ℕ) → AreOf (IsKnown w.shown k) w
+  all-known : (w : World) → HoldsIn Both w → (k : ℕ) → AreOf (IsKnown w.shown k) w
   all-known w h k = record { calls = λ c n l cl q. inr (holds-lined w h c n l cl q); shown = own-known w.shown k w.shown (λ l e. e) }
 
   -- Steps from a world.
   record Moves (P : ℕ → ℕ → Call → Type 0) (asked : ℕ → ℕ) (w : World) (m : Moving) : Type 0 where
-    holds : Holds Both m.world
-    tells : Tells P w m
+    holds : HoldsIn Both m.world
+    tells : TellsLines P w m
     asks : EndsAsked first asked m.world
 
   module _ (P : ℕ → ℕ → Call → Type 0) (asked : ℕ → ℕ) (w : World) where
@@ -132,7 +132,7 @@ module _ (first : ℕ → ℕ) (F : System → Type 0) (keep : StepsKeep F) (res
       asks = alike-asks first asked m.world (show_line show.Unsettled m).world (line-alike m.world (show_line show.Unsettled m).world refl refl refl refl (λ c. ended-line c m.world.shown show.Unsettled)) a.asks;
     }
       where
-        more : Holds Both m.world → Holds Both (show_line show.Unsettled m).world
+        more : HoldsIn Both m.world → HoldsIn Both (show_line show.Unsettled m).world
         more (g, h, st) = (lined g show.Unsettled, both.unsettled g h, lined-stands m.world g st show.Unsettled)
 
     settle-moves : (k : ℕ) (fates : Fates) (m : Moving) → Moves P asked w m → Moves P asked w (settle k fates m)
@@ -166,7 +166,7 @@ module _ (first : ℕ → ℕ) (F : System → Type 0) (keep : StepsKeep F) (res
         go (Some i) more = on i (onward m (world.deliver (this_fate fates) i m.world)).fault more
 
   -- The event of a line, which is the next of the script.
-  module _ (lines : Lines) (asked : ℕ → ℕ) (w : World) (holds : Holds Both w) (of : AreOf (IsCallIn lines) w) (asks : EndsAsked first asked w) (column : ℕ) where
+  module _ (lines : Lines) (asked : ℕ → ℕ) (w : World) (holds : HoldsIn Both w) (of : AreOf (IsCallIn lines) w) (asks : EndsAsked first asked w) (column : ℕ) where
     abbrev now : Line → ℕ → ℕ
     now l c = asked c + one_if (may_end c l)
 
@@ -261,7 +261,7 @@ module _ (first : ℕ → ℕ) (F : System → Type 0) (keep : StepsKeep F) (res
     counted : length r.pieces ≤ length more + n
 
   -- one piece more, behind a world whose lines are told
-  stood-more : (lines : Lines) (pieces : Pieces) (w v : World) (more : Lines) (p : List Shown) → Stood lines pieces w → IsPiece (length pieces + 1) w.shown p → length (lines ++ more) ≤ length pieces + 1 → Holds Both v → AreOf (IsCallIn (lines ++ more)) v
+  stood-more : (lines : Lines) (pieces : Pieces) (w v : World) (more : Lines) (p : List Shown) → Stood lines pieces w → IsPiece (length pieces + 1) w.shown p → length (lines ++ more) ≤ length pieces + 1 → HoldsIn Both v → AreOf (IsCallIn (lines ++ more)) v
       → EndsAsked first (asked_by (lines ++ more)) v → v.shown ≡ w.shown ++ p → Stood (lines ++ more) (pieces ++ p ∷ []) v
   stood-more lines pieces w v more p s i few h o a q = record {
     sofar = record { holds = h; of = o; shown = now };
@@ -284,7 +284,7 @@ module _ (first : ℕ → ℕ) (F : System → Type 0) (keep : StepsKeep F) (res
       one n m p = omega (arith, p)
 
   -- behind the same lines
-  same-stood : (lines : Lines) (pieces : Pieces) (w v : World) (p : List Shown) → Stood lines pieces w → IsPiece (length pieces + 1) w.shown p → Holds Both v → AreOf (IsCallIn lines) v → EndsAsked first (asked_by lines) v → v.shown ≡ w.shown ++ p → Stood lines (pieces ++ p ∷ []) v
+  same-stood : (lines : Lines) (pieces : Pieces) (w v : World) (p : List Shown) → Stood lines pieces w → IsPiece (length pieces + 1) w.shown p → HoldsIn Both v → AreOf (IsCallIn lines) v → EndsAsked first (asked_by lines) v → v.shown ≡ w.shown ++ p → Stood lines (pieces ++ p ∷ []) v
   same-stood lines pieces w v p s i h o a q = subst (λ x. Stood x (pieces ++ p ∷ []) v) (append-nil lines)
       (stood-more lines pieces w v [] p s i (subst (λ x. length x ≤ length pieces + 1) (sym (append-nil lines)) (few (length lines) (length pieces) s.counted)) h (subst (λ x. AreOf (IsCallIn x) v) (sym (append-nil lines)) o)
       (subst (λ x. EndsAsked first (asked_by x) v) (sym (append-nil lines)) a) q)
@@ -360,7 +360,7 @@ module _ (first : ℕ → ℕ) (F : System → Type 0) (keep : StepsKeep F) (res
         counted = moved.counted;
       }
         where
-          less : Holds Both m.world → Holds Both (forget m.world)
+          less : HoldsIn Both m.world → HoldsIn Both (forget m.world)
           less (g, h, st) = (g, h, forgotten-stands m.world g st)
 
       More : Type 0
@@ -465,7 +465,7 @@ module _ (F : System → Type 0) (keep : StepsKeep F) (rest : RestsKeep F) (has-
   comes : Comes first F keep rest has-line [] [] ls (close ran.ending ran) 2
   comes = closes first F keep rest has-line [] [] ls ran (run-on first F keep rest has-line (bound ls) ls fs [] [] w at-first refl fit)
 
-  less : (v : World) → Holds (λ h. F h × AsksAgree first h) v → Holds F v
+  less : (v : World) → HoldsIn (λ h. F h × AsksAgree first h) v → HoldsIn F v
   less v (h, x, s) = (h, x.0, s)
 
   pub asked-drills : RunAsks F ls (close ran.ending ran)

@@ -16,7 +16,7 @@ use Rattle.ec_coherence.specs.Tokens.{TokensAgree, View, eff, tables_of, view}
 use Rattle.ec_coherence.proofs.OpenAgrees as opening
 use Rattle.ec_coherence.proofs.Restart.{down, stopped-agrees}
 use Rattle.ec_coherence.proofs.Tables.{by-session}
-use Rattle.ec_coherence.specs.CommitLaws.{AllAgree, Stands}
+use Rattle.ec_coherence.specs.CommitLaws.{AllAgree, StepStands}
 use Rattle.ec_coherence.proofs.SessionCommits.{open-stands, open-starts, open-watches}
 use Rattle.ec_lawful.proofs.Downs.{moved-agrees}
 use Rattle.ec_lawful.proofs.Dressed.{dressed-all}
@@ -48,10 +48,10 @@ module _ (g : System) (all : AllAgree (bare g)) (c : ℕ) (age : Age) (within : 
   abbrev t : Serving
   t = serving (ups.first g all (e + 1) later)
 
-  st : Stands up t g.ghost
+  st : StepStands up t g.ghost
   st = ups.up-begins g all (e + 1) later
 
-  opens : Stands up (open_new c age None t) γ'
+  opens : StepStands up (open_new c age None t) γ'
   opens = (
     open-stands up g.ghost t st.0 refl c age within idle greater reached small,
     open-watches up g.ghost t st.0 refl c age within idle greater reached small st.1,

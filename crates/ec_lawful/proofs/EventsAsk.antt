@@ -33,10 +33,10 @@ use Rattle.ec_lawful.specs.Doubts.{ComesFrom}
 use Rattle.ec_lawful.proofs.From.{ends-from, takes-from}
 use Rattle.ec_coherence.specs.Makes.{IsMade}
 use Rattle.ec_coherence.proofs.TakesMaking.{end-stands, takes-any}
-use Rattle.ec_lawful.specs.Steps.{Holds}
+use Rattle.ec_lawful.specs.Steps.{HoldsIn}
 use Rattle.ec_lawful.proofs.Frames.{settled-stands}
 use Rattle.ec_lawful.specs.Asked.{AsksAgree, EndsAsked, IsNoBye, ended_by, passed, seat, to_end, top, with_event}
-use Rattle.ec_lawful.specs.AskedLaws.{Asks}
+use Rattle.ec_lawful.specs.AskedLaws.{StandsAsked}
 use Rattle.ec_lawful.proofs.Pays.{MayOpen, asks_for}
 use Rattle.ec_lawful.proofs.LaterStarts.{may-open}
 use Rattle.ec_lawful.proofs.Reading.{Begins, alike, alike-asks, done-alike, ended-line, running-tops, starting-tops}
@@ -207,7 +207,7 @@ module _ (first asked : ℕ → ℕ) where
       none : (n : ℕ) → n + 0 ≤ n
       none n = omega arith
 
-  pub deliver-asks : (fate : Fate) (n : ℕ) (w : World) → Holds (Asks first) w → A w → (world.deliver fate n w).fault ≡ None → A (world.deliver fate n w).world
+  pub deliver-asks : (fate : Fate) (n : ℕ) (w : World) → HoldsIn (StandsAsked first) w → A w → (world.deliver fate n w).fault ≡ None → A (world.deliver fate n w).world
   deliver-asks fate n w (g, h, st) a f = go (at n w.pool) refl f
     where
       settled : A (world.settled n w)
@@ -270,7 +270,7 @@ module _ (first asked : ℕ → ℕ) (c : ℕ) where
       one-more : (x n u now was p a k : ℕ) → x ≡ n + 0 → now ≤ was + k → n + u + (was - p) ≤ a → x + u + (now - p) ≤ a + k
       one-more x n u now was p a k q l m = omega (arith, q, l, m)
 
-  end-asks : (fate : Fate) (w : World) → Holds (Asks first) w → EndsAsked first asked w → (o : Option Server) → w.server ≡ o → (world.end fate c o w).fault ≡ None → EndsAsked first more (world.end fate c o w).world
+  end-asks : (fate : Fate) (w : World) → HoldsIn (StandsAsked first) w → EndsAsked first asked w → (o : Option Server) → w.server ≡ o → (world.end fate c o w).fault ≡ None → EndsAsked first more (world.end fate c o w).world
   end-asks fate w h a None q f = nothing-asks first more w (asks-more w a)
   end-asks fate w (g, h, st) a (Some v) q f = go (is_open (slot v.durable c)) f
     where
@@ -282,7 +282,7 @@ module _ (first asked : ℕ → ℕ) (c : ℕ) where
 
 -- Each event.
 
-module _ (first asked : ℕ → ℕ) (fate : Fate) (w : World) (h : Holds (Asks first) w) (a : EndsAsked first asked w) where
+module _ (first asked : ℕ → ℕ) (fate : Fate) (w : World) (h : HoldsIn (StandsAsked first) w) (a : EndsAsked first asked w) where
   -- the same are asked for
   same-asked : (v : World) → EndsAsked first asked v → EndsAsked first (λ c. asked c + 0) v
   same-asked v b = weaken first asked (λ c. asked c + 0) v (λ c. no-more (asked c)) b

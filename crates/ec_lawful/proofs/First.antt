@@ -19,13 +19,13 @@ use Rattle.ec_coherence.specs.ChangeLaws.{Calls, with_clerk}
 use Rattle.ec_coherence.specs.Steps.{call_of, doing_in}
 use Rattle.ec_coherence.proofs.ClerkIn.{start-same}
 use Rattle.ec_coherence.specs.CommitLaws.{AllAgree}
-use Rattle.ec_coherence.specs.StandLaws.{ClerkStands, GoesOn, lined}
+use Rattle.ec_coherence.specs.StandLaws.{ClerkStands, SessionGoesOn, lined}
 use Rattle.ec_clerk_steps.specs.Counts.{CountsAgree}
 use Rattle.ec_clerk_steps.specs.Cuts.{CutsAgree}
 use Rattle.ec_clerk_steps.specs.JoinLaws.{started}
 use Rattle.ec_clerk_steps.proofs.Begins.{fresh-stands, start-stands}
 use Rattle.ec_clerk_steps.proofs.OutsideChanges.{outside-all, outside-cuts}
-use Rattle.ec_lawful.specs.Steps.{IsNew}
+use Rattle.ec_lawful.specs.Steps.{LineIsNew}
 use Rattle.ec_clerk_steps.specs.Calls.{CallsAgree}
 use Rattle.ec_clerk_steps.specs.CallLaws.{IsNewLine}
 use Rattle.ec_clerk_steps.proofs.Begin.{begun-call, begun-calls, fresh-lines}
@@ -62,7 +62,7 @@ module _ (g : System) (old : EventsAgree g) (c b : ℕ) (k : Clerk) (there : g.c
     cuts = λ f a s m ks r p o fz. split-start c b f a m now g.clerks (λ x y z. g.running x ≡ Some y → g.ghost.owner s ≡ Some (x, z.age) → CutAgrees h x y s z ks) p (λ i u. cut c b s k now ks refl (old.cuts c b s k ks i there u fz)) (λ d i j u. cut f a s m m ks refl (old.cuts f a s m ks j i u fz)) r o;
   }
 
-module _ (g : System) (all : AllAgree g) (q : CallsAgree g) (counts : CountsAgree g) (c : ℕ) (small : c < 16) (down : g.running c ≡ None) (l : ℕ) (cl : Call) (new : IsNew g l) (bounded : T (is_bounded cl)) where
+module _ (g : System) (all : AllAgree g) (q : CallsAgree g) (counts : CountsAgree g) (c : ℕ) (small : c < 16) (down : g.running c ≡ None) (l : ℕ) (cl : Call) (new : LineIsNew g l) (bounded : T (is_bounded cl)) where
   abbrev b : ℕ
   b = g.boots c + 1
 
@@ -107,7 +107,7 @@ module _ (g : System) (all : AllAgree g) (q : CallsAgree g) (counts : CountsAgre
   pub own-call : call_of c 1 calls ≡ Some (l, cl)
   own-call = begun-call (started g c g.calls) up-events c b l cl first own-runs (start-same c b first g.clerks) up-new bounded up-agrees
 
-  goes : GoesOn first begins
+  goes : SessionGoesOn first begins
   goes = record { id = refl; age = refl; session = refl; owed = refl; next = refl }
 
   abbrev shown : System

@@ -25,7 +25,7 @@ use Rattle.ec_coherence.specs.ChangeLaws.{Calls, with_clerk}
 use Rattle.ec_coherence.specs.Steps.{call_of, doing_in, less_call}
 use Rattle.ec_coherence.proofs.ClerkIn.{start-same}
 use Rattle.ec_coherence.specs.CommitLaws.{AllAgree}
-use Rattle.ec_coherence.specs.StandLaws.{GoesOn}
+use Rattle.ec_coherence.specs.StandLaws.{SessionGoesOn}
 use Rattle.ec_coherence.specs.Answers.{Gives, answered_ghost, based, fresh_of, op_given}
 use Rattle.ec_coherence.specs.Comes.{after_answer, entry_next, ops_next}
 use Rattle.ec_coherence.proofs.Answering.{alike, new_fresh, old_fresh}
@@ -36,7 +36,7 @@ use Rattle.ec_clerk_steps.specs.JoinLaws.{IsFresh, started}
 use Rattle.ec_clerk_steps.proofs.Begins.{fresh-stands}
 use Rattle.ec_clerk_steps.proofs.Going.{plain-keeps}
 use Rattle.ec_clerk_steps.proofs.OutsideChanges as outside
-use Rattle.ec_lawful.specs.Steps.{IsNew}
+use Rattle.ec_lawful.specs.Steps.{LineIsNew}
 use Rattle.ec_clerk_steps.specs.Answering.{Suits, answered_clerk, answering, done_clerk}
 use Rattle.ec_clerk_steps.specs.Zeros.{HasNoZero, ZerosAgree}
 use Rattle.ec_clerk_steps.proofs.Without.{without-answers}
@@ -93,7 +93,7 @@ module _ (c b : ℕ) where
   no-ops m p (NeedIds xs) a g = refl
   no-ops m p (Done o) a g = ap (λ u. elim u as (λ z. List Op) [ None ↦ [] | Some w ↦ record { clerk = c; boot = b; number = first.log.next; place = p; update = w } ∷ [] ]) (none-op o.update g.1)
 
-module _ (g : System) (all : AllAgree g) (q : CallsAgree g) (rest : AreAtRest g) (counts : CountsAgree g) (zeros : ZerosAgree g) (c : ℕ) (small : c < 16) (down : g.running c ≡ None) (l : ℕ) (cl : Call) (new : IsNew g l) (bounded : T (is_bounded cl))
+module _ (g : System) (all : AllAgree g) (q : CallsAgree g) (rest : AreAtRest g) (counts : CountsAgree g) (zeros : ZerosAgree g) (c : ℕ) (small : c < 16) (down : g.running c ≡ None) (l : ℕ) (cl : Call) (new : LineIsNew g l) (bounded : T (is_bounded cl))
     (a : Answer) (none : shows cl a ≡ false) (gives : (m : ℕ) → Gives m (new_clerk c (g.boots c + 1)) (verdict cl (new_clerk c (g.boots c + 1))) a None []) where
   abbrev b : ℕ
   b = g.boots c + 1
@@ -190,7 +190,7 @@ module _ (g : System) (all : AllAgree g) (q : CallsAgree g) (rest : AreAtRest g)
   middle-all : AllAgree middle
   middle-all = subst AllAgree middle-is answered-first.0
 
-  goes : GoesOn k now
+  goes : SessionGoesOn k now
   goes = record { id = refl; age = refl; session = refl; owed = refl; next = refl }
 
   last-is : with_clerk middle c b now middle.calls [] ≡ h
@@ -253,7 +253,7 @@ module _ (g : System) (all : AllAgree g) (q : CallsAgree g) (rest : AreAtRest g)
             recalls = was.recalls;
           }
 
-pub first-answers : (g : System) → AllAgree g → CallsAgree g → AreAtRest g → CountsAgree g → ZerosAgree g → (c : ℕ) → c < 16 → g.running c ≡ None → (l : ℕ) (cl : Call) → IsNew g l → T (is_bounded cl)
+pub first-answers : (g : System) → AllAgree g → CallsAgree g → AreAtRest g → CountsAgree g → ZerosAgree g → (c : ℕ) → c < 16 → g.running c ≡ None → (l : ℕ) (cl : Call) → LineIsNew g l → T (is_bounded cl)
     → list_any (is_answer_to 1) (begin cl (new_clerk c (g.boots c + 1))).outs ≡ true
     → (a : Answer) × (begin cl (new_clerk c (g.boots c + 1)) ≡ record { clerk = answered_start c (g.boots c + 1); outs = out.Answer 1 a None ∷ []; spent = None })
     × AllAgree (behind_first g c l cl a) × CallsAgree (behind_first g c l cl a) × AreAtRest (behind_first g c l cl a) × CountsAgree (behind_first g c l cl a) × ZerosAgree (behind_first g c l cl a)

@@ -19,7 +19,7 @@ use Rattle.ec_coherence.proofs.Tables.{same_some}
 use Rattle.ec_coherence.specs.CommitLaws.{AllAgree}
 use Rattle.ec_coherence.specs.Answers.{Gives, fresh_of}
 use Rattle.ec_clerk_steps.specs.Answering.{Suits, answered_clerk}
-use Rattle.ec_clerk_steps.specs.Trying.{Answers, IsTrying}
+use Rattle.ec_clerk_steps.specs.Trying.{AnswersWith, IsTrying}
 use Rattle.ec_clerk_steps.proofs.Clerked.{IsKept, answered-kept}
 use Rattle.ec_clerk_steps.proofs.Turned.{same-session}
 use Rattle.ec_lawful.specs.Creates.{creates}
@@ -34,19 +34,19 @@ use Rattle.ec_clerk_steps.proofs.Issue.{first-gone, first-in}
 
 -- What the ghosts are behind an answer.
 module _ (g : System) (c b : ℕ) (d : Doing) (γ : Ghost) (l : ℕ) (cl : Call) (a : Answer) (op : Option ℕ) (δ : Ghost) where
-  shown-is : Answers g c b d γ l cl a op δ → δ.shown ≡ γ.shown ++ Answered l c cl a op ∷ []
+  shown-is : AnswersWith g c b d γ l cl a op δ → δ.shown ≡ γ.shown ++ Answered l c cl a op ∷ []
   shown-is (inl q) = ap (λ x. x.shown) q
   shown-is (inr q) = ap (λ x. x.shown) q.4
 
-  fresh-is : Answers g c b d γ l cl a op δ → δ.fresh ≡ put (length γ.shown + 1) (fresh_of d.clerk) γ.fresh
+  fresh-is : AnswersWith g c b d γ l cl a op δ → δ.fresh ≡ put (length γ.shown + 1) (fresh_of d.clerk) γ.fresh
   fresh-is (inl q) = ap (λ x. x.fresh) q
   fresh-is (inr q) = ap (λ x. x.fresh) q.4
 
-  grants-is : Answers g c b d γ l cl a op δ → δ.grants ≡ γ.grants
+  grants-is : AnswersWith g c b d γ l cl a op δ → δ.grants ≡ γ.grants
   grants-is (inl q) = ap (λ x. x.grants) q
   grants-is (inr q) = ap (λ x. x.grants) q.4
 
-  first-is : Answers g c b d γ l cl a op δ → δ.first ≡ γ.first
+  first-is : AnswersWith g c b d γ l cl a op δ → δ.first ≡ γ.first
   first-is (inl q) = ap (λ x. x.first) q
   first-is (inr q) = ap (λ x. x.first) q.4
 
@@ -94,7 +94,7 @@ module _ (g : System) (c b : ℕ) (d : Doing) (γ : Ghost) (t : IsTrying g c b d
     | inr i ↦ (((t.frees).unused i.0 x i.1 (in-it here all c b i.0 i.1 i.2) (inl i.3))).1
   ]
 
-  module _ (a : Answer) (op : Option ℕ) (rest : Owed) (gives : Gives g.durable.max_objects left v a op rest) (suit : Suits v left) (e : Doing) (is : e.clerk ≡ now) (l : ℕ) (δ : Ghost) (how : Answers g c b d γ l cl a op δ) (t2 : IsTrying g c b e δ) where
+  module _ (a : Answer) (op : Option ℕ) (rest : Owed) (gives : Gives g.durable.max_objects left v a op rest) (suit : Suits v left) (e : Doing) (is : e.clerk ≡ now) (l : ℕ) (δ : Ghost) (how : AnswersWith g c b d γ l cl a op δ) (t2 : IsTrying g c b e δ) where
     abbrev behind : System
     behind = doing_in c b e δ g
 

@@ -42,12 +42,12 @@ module _ (F : System → Type 0) (agrees : (g : System) → F g → AllAgree g �
     of-step : (g : System) (v : Server) → AllAgree g → g.server ≡ Some v → (t : Serving) → IsStep g v t → (r : Record) → t.rec ≡ Some r → t.spent ≡ None → Steps g t r
     of-step g v all up t (inl (c, m, p, e)) r q n = (takes-from g v c m p r (sym (ap (λ z. z.rec) e) ∙ q), by (takes-any g v all up c m p))
       where
-        by : T (is_some (take c m v).spent) ⊎ ((γ : Ghost) × commits.Stands g (take c m v) γ) → step r g.durable ≡ Ok t.server.durable
+        by : T (is_some (take c m v).spent) ⊎ ((γ : Ghost) × commits.StepStands g (take c m v) γ) → step r g.durable ≡ Ok t.server.durable
         by (inl s) = absurd (subst (λ o. T (is_some o)) (sym (ap (λ z. z.spent) e) ∙ n) s)
         by (inr (γ, s)) = subst (λ o. Committed g.durable o t.server.durable) q (subst (λ z. Committed g.durable z.rec z.server.durable) (sym e) (s.0).committed)
     of-step g v all up t (inr (c, e)) r q n = (ends-from g v c r (sym (ap (λ z. z.rec) e) ∙ q), by (end-stands g v all up c))
       where
-        by : T (is_some (end c v).spent) ⊎ ((γ : Ghost) × commits.Stands g (end c v) γ) → step r g.durable ≡ Ok t.server.durable
+        by : T (is_some (end c v).spent) ⊎ ((γ : Ghost) × commits.StepStands g (end c v) γ) → step r g.durable ≡ Ok t.server.durable
         by (inl s) = absurd (subst (λ o. T (is_some o)) (sym (ap (λ z. z.spent) e) ∙ n) s)
         by (inr (γ, s)) = subst (λ o. Committed g.durable o t.server.durable) q (subst (λ z. Committed g.durable z.rec z.server.durable) (sym e) (s.0).committed)
 

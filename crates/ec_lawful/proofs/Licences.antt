@@ -24,7 +24,7 @@ use Rattle.ec_coherence.proofs.Tables.{clash-below, clash-turn, same_some}
 use Rattle.ec_coherence.specs.CommitLaws.{AllAgree}
 use Rattle.ec_coherence.proofs.Answering.{shown-updates}
 use Rattle.ec_coherence.proofs.Touching.{token-of}
-use Rattle.ec_lawful.specs.Coherent.{HasLicence, Holds, left_by}
+use Rattle.ec_lawful.specs.Coherent.{HasLicence, HoldsToken, left_by}
 use Rattle.ec_lawful.proofs.OpenSlots.{open-before}
 use Rattle.ec_base.proofs.Options.{none_some}
 
@@ -72,10 +72,10 @@ module _ (g : System) (all : AllAgree g) (w : World) (st : Stands w g) where
       }
 
   -- what is held is allowed by the session's token
-  allowed : (c x : ℕ) (h : Held) (o : Holds w c x h) → rank h.hold ≤ rank (eff_hold (eff (view g) (in-session c o.clerk o.licence).session x))
+  allowed : (c x : ℕ) (h : Held) (o : HoldsToken w c x h) → rank h.hold ≤ rank (eff_hold (eff (view g) (in-session c o.clerk o.licence).session x))
   allowed c x h o = let i = in-session c o.clerk o.licence in token-of g (all.0).tokens i.session x o.clerk i.there h o.held
 
-  pub no-conflict : (c d x : ℕ) (h k : Held) → c ≢ d → Holds w c x h → Holds w d x k → T (not (clash h.hold k.hold))
+  pub no-conflict : (c d x : ℕ) (h k : Held) → c ≢ d → HoldsToken w c x h → HoldsToken w d x k → T (not (clash h.hold k.hold))
   no-conflict c d x h k n a b =
       let i = in-session c a.clerk a.licence in
       let j = in-session d b.clerk b.licence in
@@ -86,7 +86,7 @@ module _ (g : System) (all : AllAgree g) (w : World) (st : Stands w g) where
   same-updates : updates (kept (base_of g) (place w.shown)) ≡ updates g.ghost.kept
   same-updates = ap (λ ss. updates (kept (base_of g) (place ss))) st.shown ∙ ap (λ h. updates (kept (base_of g) h)) (all.0).events.placed ∙ ap updates (all.0).events.keeps ∙ shown-updates g g.ghost.kept
 
-  pub held-image : (c x : ℕ) (h : Held) → Holds w c x h → h.image ≡ left_by (base_of g) (kept (base_of g) (place w.shown)) x
+  pub held-image : (c x : ℕ) (h : Held) → HoldsToken w c x h → h.image ≡ left_by (base_of g) (kept (base_of g) (place w.shown)) x
   held-image c x h o =
       let i = in-session c o.clerk o.licence in
       (all.0).images.licences i.session x o.clerk i.there h o.held ∙ ap (λ z. after g.origin (updates (seen_ops z g.ghost.kept)) x) ((all.0).images.unfrozen i.session i.opened) ∙ ap (λ us. after g.origin us x) (sym same-updates)

@@ -26,7 +26,7 @@ use Rattle.ec_clerk_steps.specs.Frees.{FullsAgree}
 use Rattle.ec_clerk_steps.specs.Trying.{IsTrying}
 use Rattle.ec_clerk_steps.proofs.ZerosBehind.{steps-keep}
 use Rattle.ec_clerk_steps.proofs.Parts.{have-no-zero}
-use Rattle.ec_lawful.specs.Steps.{IsDone}
+use Rattle.ec_lawful.specs.Steps.{StepIsDone}
 use Rattle.ec_lawful.specs.Whole.{Whole}
 use Rattle.ec_lawful.specs.SettleLaws.{Beside, IsLined}
 use Rattle.ec_lawful.proofs.Beginning.{begins}
@@ -110,5 +110,5 @@ module _ (g : System) (whole : Whole g) (c b : ℕ) (k : Clerk) (runs : g.runnin
   none-ready : NoneReady (resend k).clerk
   none-ready = subst (Each (λ r. T (not (is_ready r (resend k).clerk)))) (sym (leaves-resend k).1) (none-still (doing k) (resend k) still k.recalls at-rest.recalls)
 
-  pub resends-keep : FullsAgree (doing_in c b (resend k) g.ghost g) → IsDone Whole g c b (resend k)
+  pub resends-keep : FullsAgree (doing_in c b (resend k) g.ghost g) → StepIsDone Whole g c b (resend k)
   resends-keep fulls = inr (g.ghost, (((resent.trying).stands).0).shown, ends-whole g c b g.ghost (beside-whole g whole c) (resend k) resent none-ready still-wait fulls)

@@ -35,7 +35,7 @@ use Rattle.ec_lawful.proofs.Stored.{show-lawfully}
 use Rattle.ec_lawful.proofs.PlacesServe.{disk-there, fronts-there, kept-there}
 use Rattle.ec_lawful.specs.Calls.{IsOf}
 use Rattle.ec_lawful.specs.DrillRuns.{AreFit, Closed, IsCallIn, IsUnspent}
-use Rattle.ec_lawful.specs.Steps.{Holds, IsDone, IsNew, IsServed, StepsKeep, begun, calling, in_call}
+use Rattle.ec_lawful.specs.Steps.{HoldsIn, StepIsDone, LineIsNew, IsServed, StepsKeep, clerk_begun, calling, in_call}
 use Rattle.ec_lawful.specs.Ties.{called, waiting}
 use Rattle.ec_lawful.specs.AskedLaws.{IsFresh, RestsKeep, RunAsks}
 use Rattle.ec_lawful.proofs.DrillsAsk.{asked-drills}
@@ -52,12 +52,12 @@ kept-fits g all = subst (Fits g.origin) (sym (ap (λ h. updates (kept (base_of g
 
 -- What is asked of each step of a clerk.
 pub record ClerksKeep (F : System → Type 0) : Type 0 where
-  pub messages : (g : System) (c b : ℕ) (k : Clerk) → F g → g.running c ≡ Some b → g.clerks c b ≡ Some k → (m : Msg) → Contains g.pool (c, m) → IsDone F g c b (take_message m k)
-  pub pushes : (g : System) (c b : ℕ) (k : Clerk) → F g → g.running c ≡ Some b → g.clerks c b ≡ Some k → (n : ℕ) → IsDone F g c b (push n k)
-  pub resends : (g : System) (c b : ℕ) (k : Clerk) → F g → g.running c ≡ Some b → g.clerks c b ≡ Some k → IsDone F g c b (resend k)
-  pub calls : (g : System) (c b : ℕ) (k : Clerk) → F g → g.running c ≡ Some b → g.clerks c b ≡ Some k → (l : ℕ) (cl : Call) → IsNew g l → T (is_bounded cl) → IsDone F (in_call c l cl k g) c b (begin cl k)
-  pub starts : (g : System) (c : ℕ) → F g → g.running c ≡ None → c < 16 → (l : ℕ) (cl : Call) → IsNew g l → T (is_bounded cl) → (start c (g.boots c + 1)).spent ≡ None
-      → let d = start c (g.boots c + 1) in IsDone F (in_call c l cl d.clerk (begun c g)) c (g.boots c + 1) (calling cl d.outs d.clerk)
+  pub messages : (g : System) (c b : ℕ) (k : Clerk) → F g → g.running c ≡ Some b → g.clerks c b ≡ Some k → (m : Msg) → Contains g.pool (c, m) → StepIsDone F g c b (take_message m k)
+  pub pushes : (g : System) (c b : ℕ) (k : Clerk) → F g → g.running c ≡ Some b → g.clerks c b ≡ Some k → (n : ℕ) → StepIsDone F g c b (push n k)
+  pub resends : (g : System) (c b : ℕ) (k : Clerk) → F g → g.running c ≡ Some b → g.clerks c b ≡ Some k → StepIsDone F g c b (resend k)
+  pub calls : (g : System) (c b : ℕ) (k : Clerk) → F g → g.running c ≡ Some b → g.clerks c b ≡ Some k → (l : ℕ) (cl : Call) → LineIsNew g l → T (is_bounded cl) → StepIsDone F (in_call c l cl k g) c b (begin cl k)
+  pub starts : (g : System) (c : ℕ) → F g → g.running c ≡ None → c < 16 → (l : ℕ) (cl : Call) → LineIsNew g l → T (is_bounded cl) → (start c (g.boots c + 1)).spent ≡ None
+      → let d = start c (g.boots c + 1) in StepIsDone F (in_call c l cl d.clerk (clerk_begun c g)) c (g.boots c + 1) (calling cl d.outs d.clerk)
 
 module _ (clerks : ClerksKeep Whole) (v : Images) (most : ℕ) where
   abbrev F : System → Type 0
@@ -67,7 +67,7 @@ module _ (clerks : ClerksKeep Whole) (v : Images) (most : ℕ) where
   fixed : (g h : System) → h.origin ≡ g.origin → h.durable.max_objects ≡ g.durable.max_objects → F g → Whole h → F h
   fixed g h q r f w = record { whole = w; origin = q ∙ f.origin; most_is = r ∙ f.most_is }
 
-  done-fixed : (g : System) (c b : ℕ) (d : Doing) (h : System) → h.origin ≡ g.origin → h.durable.max_objects ≡ g.durable.max_objects → F g → IsDone Whole h c b d → IsDone F h c b d
+  done-fixed : (g : System) (c b : ℕ) (d : Doing) (h : System) → h.origin ≡ g.origin → h.durable.max_objects ≡ g.durable.max_objects → F g → StepIsDone Whole h c b d → StepIsDone F h c b d
   done-fixed g c b d h q r f (inl s) = inl s
   done-fixed g c b d h q r f (inr (γ, shown, w)) = inr (γ, shown, fixed g (doing_in c b d γ h) q r f w)
 
@@ -113,8 +113,8 @@ module _ (clerks : ClerksKeep Whole) (v : Images) (most : ℕ) where
     pushes = λ g c b k f run there n. done-fixed g c b (push n k) g refl refl f (clerks.pushes g c b k f.whole run there n);
     resends = λ g c b k f run there. done-fixed g c b (resend k) g refl refl f (clerks.resends g c b k f.whole run there);
     calls = λ g c b k f run there l cl new bounded. (let q = in-call-fixed g c l cl k in done-fixed g c b (begin cl k) (in_call c l cl k g) q.0 q.1 f (clerks.calls g c b k f.whole run there l cl new bounded));
-    starts = λ g c f idle within l cl new bounded spare. (let d = start c (g.boots c + 1) in let q = in-call-fixed (begun c g) c l cl d.clerk in
-        done-fixed g c (g.boots c + 1) (calling cl d.outs d.clerk) (in_call c l cl d.clerk (begun c g)) q.0 q.1 f (clerks.starts g c f.whole idle within l cl new bounded spare));
+    starts = λ g c f idle within l cl new bounded spare. (let d = start c (g.boots c + 1) in let q = in-call-fixed (clerk_begun c g) c l cl d.clerk in
+        done-fixed g c (g.boots c + 1) (calling cl d.outs d.clerk) (in_call c l cl d.clerk (clerk_begun c g)) q.0 q.1 f (clerks.starts g c f.whole idle within l cl new bounded spare));
     crashes = λ g f c. fixed g (crashed g c) refl refl f (crashed-whole g f.whole c);
     nothing = λ g f. fixed g (lined g show.Nothing) refl refl f (nothing-whole g f.whole);
     unsettled = λ g f. fixed g (lined g show.Unsettled) refl refl f (unsettled-whole g f.whole);
@@ -133,7 +133,7 @@ module _ (clerks : ClerksKeep Whole) (v : Images) (most : ℕ) where
       )
 
   -- The end of a run.
-  module _ (ls : List Read) (fs : List Fates) (w : World) (holds : Holds F w) (fresh : IsFresh holds.0) (no-calls : w.calls ≡ []) (no-lines : w.shown ≡ []) (fit : AreFit ls) where
+  module _ (ls : List Read) (fs : List Fates) (w : World) (holds : HoldsIn F w) (fresh : IsFresh holds.0) (no-calls : w.calls ≡ []) (no-lines : w.shown ≡ []) (fit : AreFit ls) where
     abbrev r : Ran
     r = close (run_from (bound ls) 1 ls fs w).ending (run_from (bound ls) 1 ls fs w)
 
@@ -165,7 +165,7 @@ module _ (clerks : ClerksKeep Whole) (v : Images) (most : ℕ) where
         own (show.Limit n k ∷ ss) e = (tt, own ss e.1)
         own (show.Spent n ∷ ss) e = (tt, own ss e.1)
 
-        go : Holds F r.world → RunShows v top most ls r
+        go : HoldsIn F r.world → RunShows v top most ls r
         go (g, f, st) =
             let lines-are : g.ghost.shown ≡ joined r.pieces = sym st.shown ∙ (c.sofar).shown in
             let there = places-show g f top formed above in

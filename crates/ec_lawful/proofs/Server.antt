@@ -16,7 +16,7 @@ use Rattle.ec_protocol.specs.declared.server.Server.{Server}
 use Rattle.ec_coherence.specs.System.{System, Ghost}
 use Rattle.ec_coherence.specs.Stops.{RunsOn}
 use Rattle.ec_coherence.specs.Steps.{Committed, open_session, end_lines, ended_line, record_lines, runs, serving_in}
-use Rattle.ec_coherence.specs.CommitLaws.{AllAgree, Stands}
+use Rattle.ec_coherence.specs.CommitLaws.{AllAgree, StepStands}
 use Rattle.ec_coherence.specs.Ends.{show_end}
 use Rattle.ec_coherence.specs.Makes.{IsMade, Makes, beginning}
 use Rattle.ec_coherence.proofs.TakesMaking.{end-stands, takes-any}
@@ -111,7 +111,7 @@ module _ (g : System) (v : Server) (w : Whole g) (up : g.server ≡ Some v) wher
   to-record (Some (Ids c s got x)) γ m = m
   to-record (Some (Epoch e)) γ m = absurd m
 
-  module _ (t : Serving) (γ : Ghost) (st : Stands g t γ) (made : Makes g v t.rec γ) (full : FullsAgree (serving_in t γ g)) where
+  module _ (t : Serving) (γ : Ghost) (st : StepStands g t γ) (made : Makes g v t.rec γ) (full : FullsAgree (serving_in t γ g)) where
     abbrev h : System
     h = serving_in t γ g
 

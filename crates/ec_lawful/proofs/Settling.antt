@@ -16,7 +16,7 @@ use Rattle.ec_clerk_steps.specs.Trying.{IsTrying}
 use Rattle.ec_coherence.proofs.Lists.{each-more}
 use Rattle.ec_clerk_steps.specs.Fulls.{AreFullAt, IsFullAt}
 use Rattle.ec_clerk_steps.proofs.Sent.{own-full, push-own, take-own}
-use Rattle.ec_lawful.specs.Steps.{IsDone}
+use Rattle.ec_lawful.specs.Steps.{StepIsDone}
 use Rattle.ec_lawful.specs.Whole.{ShowsAll, Whole}
 use Rattle.ec_lawful.specs.SettleLaws.{Beside, IsLined, TriesAll}
 use Rattle.ec_lawful.proofs.Beginning.{begins, begins-pushed}
@@ -28,7 +28,7 @@ module _ (g : System) (c b : ℕ) (tries : TriesAll g c b) (beside : Beside g c)
   -- behind what comes before the tries
   finishes : (d : Doing) (γ : Ghost) → IsTrying g c b d γ → NoneReady d.clerk → ShowsAll (doing_in c b d γ g)
       → ((δ : Ghost) → IsTrying g c b (try_all d) δ → (Each (HasLine (doing_in c b d γ g) c) d.clerk.waiting → Each (HasLine (doing_in c b (try_all d) δ g) c) (try_all d).clerk.waiting) → Each (HasLine (doing_in c b (try_all d) δ g) c) (try_all d).clerk.waiting)
-      → ((δ : Ghost) → FullsAgree (doing_in c b (evict (try_all d)) δ g)) → IsDone Whole g c b (evict (try_all d))
+      → ((δ : Ghost) → FullsAgree (doing_in c b (evict (try_all d)) δ g)) → StepIsDone Whole g c b (evict (try_all d))
   finishes d γ t none shows lines fulls = elim (tries d γ t shows) [
     | inl s ↦ inl (spent-stays.evict (try_all d) s)
     | inr q ↦
@@ -38,14 +38,14 @@ module _ (g : System) (c b : ℕ) (tries : TriesAll g c b) (beside : Beside g c)
   ]
 
   -- a step in which no call began
-  pub settles : (d : Doing) (γ : Ghost) → IsLined g c b d γ → ((δ : Ghost) → FullsAgree (doing_in c b (settle d) δ g)) → IsDone Whole g c b (settle d)
+  pub settles : (d : Doing) (γ : Ghost) → IsLined g c b d γ → ((δ : Ghost) → FullsAgree (doing_in c b (settle d) δ g)) → StepIsDone Whole g c b (settle d)
   settles d γ l fulls =
       let p = prepares g c b d γ l in
       finishes (prepared d) γ p.trying (settles-rest d (λ none. (nothing g c b d γ l.trying none).recalls)) p.shows (λ δ t f. f p.lines) fulls
 
   -- one in which a call began, where at its end each has its line
   pub settles-call : (d : Doing) (γ : Ghost) → IsTrying g c b d γ → NoneReady d.clerk → ShowsAll (doing_in c b d γ g)
-      → ((δ : Ghost) → IsTrying g c b (try_all (prepared d)) δ → Each (HasLine (doing_in c b (try_all (prepared d)) δ g) c) (try_all (prepared d)).clerk.waiting) → ((δ : Ghost) → FullsAgree (doing_in c b (settle d) δ g)) → IsDone Whole g c b (settle d)
+      → ((δ : Ghost) → IsTrying g c b (try_all (prepared d)) δ → Each (HasLine (doing_in c b (try_all (prepared d)) δ g) c) (try_all (prepared d)).clerk.waiting) → ((δ : Ghost) → FullsAgree (doing_in c b (settle d) δ g)) → StepIsDone Whole g c b (settle d)
   settles-call d γ t none shows lines fulls =
       let p = prepares-call g c b d γ t none in
       finishes (prepared d) γ p.0 p.1 (prepares-shows g c b d γ t shows) (λ δ u f. lines δ u) fulls
@@ -58,7 +58,7 @@ module _ (g : System) (whole : Whole g) (c b : ℕ) (k : Clerk) (runs : g.runnin
   own-fulls e δ own = each-more (λ m. IsFullAt g.durable.max_objects m.1) g.pool (sends c e.outs) whole.fulls own
 
   -- an operation is pushed
-  pub pushes : (n : ℕ) → IsDone Whole g c b (push n k)
+  pub pushes : (n : ℕ) → StepIsDone Whole g c b (push n k)
   pushes n = settles g c b tries (beside-whole g whole c) (elim (nat_le k.log.first n) as (λ z. Doing) [ true ↦ keep_push n (doing k) | false ↦ doing k ]) g.ghost (go (nat_le k.log.first n)) (λ δ. own-fulls (push n k) δ (own-full c g.durable.max_objects (push n k).outs (push-own n k)))
     where
       go : (z : Bool) → IsLined g c b (elim z as (λ z. Doing) [ true ↦ keep_push n (doing k) | false ↦ doing k ]) g.ghost
@@ -66,5 +66,5 @@ module _ (g : System) (whole : Whole g) (c b : ℕ) (k : Clerk) (runs : g.runnin
       go false = begins g whole c b k runs there
 
   -- a message is taken, behind which the step stands
-  pub takes : (m : Msg) (γ : Ghost) → IsLined g c b (taken m (doing k)) γ → IsDone Whole g c b (take m k)
+  pub takes : (m : Msg) (γ : Ghost) → IsLined g c b (taken m (doing k)) γ → StepIsDone Whole g c b (take m k)
   takes m γ l = settles g c b tries (beside-whole g whole c) (taken m (doing k)) γ l (λ δ. own-fulls (take m k) δ (own-full c g.durable.max_objects (take m k).outs (take-own m k)))

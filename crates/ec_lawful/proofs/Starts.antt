@@ -53,7 +53,7 @@ use Rattle.ec_clerk_steps.proofs.Sent.{own-full, settle-own}
 use Rattle.ec_lawful.specs.BeginLaws.{answered_start, behind_first, first_call, first_ghost}
 use Rattle.ec_lawful.proofs.FirstAnswered.{first-answers}
 use Rattle.ec_lawful.proofs.First.{first-begun, first-counts, first-cuts}
-use Rattle.ec_lawful.specs.Steps.{IsDone, IsNew, begun, calling, in_call}
+use Rattle.ec_lawful.specs.Steps.{StepIsDone as IsDone, LineIsNew, clerk_begun, calling, in_call}
 use Rattle.ec_lawful.specs.Ties.{called, waiting}
 use Rattle.ec_lawful.specs.Whole.{ShowsAll, Whole}
 use Rattle.ec_lawful.specs.SettleLaws.{Beside, TriesAll}
@@ -76,7 +76,7 @@ later n p le = grind arith
 put-later : (n x p : ℕ) (t : Table ℕ) → p ≤ n → at_or 0 p (put (n + 1) x t) ≡ at_or 0 p t
 put-later n x p t le = ap (or_else 0) (at-put p (n + 1) x t ∙ ap (λ z. cond z (Some x) (at p t)) (later n p le))
 
-module _ (g : System) (whole : Whole g) (c : ℕ) (down : g.running c ≡ None) (small : c < 16) (l : ℕ) (cl : Call) (new : IsNew g l) (bounded : T (is_bounded cl)) where
+module _ (g : System) (whole : Whole g) (c : ℕ) (down : g.running c ≡ None) (small : c < 16) (l : ℕ) (cl : Call) (new : LineIsNew g l) (bounded : T (is_bounded cl)) where
   abbrev b : ℕ
   b = g.boots c + 1
 
@@ -153,7 +153,7 @@ module _ (g : System) (whole : Whole g) (c : ℕ) (down : g.running c ≡ None) 
     }
 
   abbrev C : System
-  C = called c 1 l cl (begun c g)
+  C = called c 1 l cl (clerk_begun c g)
 
   answered-path : (a : Answer) → doing_in c b (record { clerk = answered_start c b; outs = out.Send (Hello c (record { boot = b; round = 0 })) ∷ out.Answer 1 a None ∷ []; spent = None }) (first_ghost c l cl a g.ghost) C ≡ behind_first g c l cl a
   answered-path a = ap (λ z. record (behind_first g c l cl a) { calls = z }) (ap (λ z. elim z as (λ y. Calls) [ None ↦ calls | Some x ↦ less_call c 1 calls ]) call-there)
@@ -285,7 +285,7 @@ module _ (g : System) (whole : Whole g) (c : ℕ) (down : g.running c ≡ None) 
             ∙ ap (λ p. record W { clerks = with_start c b e.clerk g.clerks; calls = calls_after c e.outs calls; pool = p; ghost = γ }) (append_assoc g.pool (greeting ∷ []) (sends c e.outs))
 
     -- the whole step
-    started-done : IsDone Whole (in_call c l cl k (begun c g)) c b (calling cl greets k)
+    started-done : IsDone Whole (in_call c l cl k (clerk_begun c g)) c b (calling cl greets k)
     started-done = by (list_any (is_answer_to 1) (begin cl k).outs) refl
       where
         by : (z : Bool) → list_any (is_answer_to 1) (begin cl k).outs ≡ z → IsDone Whole (waiting c l cl z C) c b (calling cl greets k)
@@ -296,9 +296,9 @@ module _ (g : System) (whole : Whole g) (c : ℕ) (down : g.running c ≡ None) 
             count true f = inl (subst (λ y. T (is_some (elim y as (λ x. Doing) [ true ↦ spend counter.CallNo (doing k) | false ↦ settle d ]).spent)) (sym f) tt)
             count false f = subst (λ e. IsDone Whole W c b (record e { outs = greets ++ e.outs })) (sym (ap (λ y. elim y as (λ x. Doing) [ true ↦ spend counter.CallNo (doing k) | false ↦ settle d ]) f)) (moved (settle d) settled)
 
-    pub starts-whole : (start c b).spent ≡ None → IsDone Whole (in_call c l cl (start c b).clerk (begun c g)) c b (calling cl (start c b).outs (start c b).clerk)
+    pub starts-whole : (start c b).spent ≡ None → IsDone Whole (in_call c l cl (start c b).clerk (clerk_begun c g)) c b (calling cl (start c b).outs (start c b).clerk)
     starts-whole spare = by (nat_lt last_counter b) refl
       where
-        by : (y : Bool) → nat_lt last_counter b ≡ y → IsDone Whole (in_call c l cl (start c b).clerk (begun c g)) c b (calling cl (start c b).outs (start c b).clerk)
+        by : (y : Bool) → nat_lt last_counter b ≡ y → IsDone Whole (in_call c l cl (start c b).clerk (clerk_begun c g)) c b (calling cl (start c b).outs (start c b).clerk)
         by true q = absurd (none_some (sym spare ∙ ap (λ y. (elim y as (λ x. Doing) [ true ↦ spend counter.Boot (doing k) | false ↦ hello (doing k) ]).spent) q))
-        by false q = subst (λ e. IsDone Whole (in_call c l cl e.clerk (begun c g)) c b (calling cl e.outs e.clerk)) (sym (ap (λ y. elim y as (λ x. Doing) [ true ↦ spend counter.Boot (doing k) | false ↦ hello (doing k) ]) q)) started-done
+        by false q = subst (λ e. IsDone Whole (in_call c l cl e.clerk (clerk_begun c g)) c b (calling cl e.outs e.clerk)) (sym (ap (λ y. elim y as (λ x. Doing) [ true ↦ spend counter.Boot (doing k) | false ↦ hello (doing k) ]) q)) started-done

@@ -19,7 +19,7 @@ use Rattle.ec_coherence.specs.CommitLaws.{AllAgree}
 use Rattle.ec_clerk_steps.specs.Frees.{FreesAgree}
 use Rattle.ec_clerk_steps.specs.Zeros.{LeaveOut, ZerosAgree}
 use Rattle.ec_clerk_steps.specs.Names.{AreOnNamed, NamesAgree}
-use Rattle.ec_clerk_steps.specs.Frames.{behind}
+use Rattle.ec_clerk_steps.specs.Frames.{system_behind}
 use Rattle.ec_clerk_steps.proofs.Serving.{still-in}
 use Rattle.ec_clerk_steps.specs.Follows.{GhostsFollow}
 use Rattle.ec_lawful.proofs.Follows.{Moves, kept-each}
@@ -44,7 +44,7 @@ found-each P (e ∷ es) n x a q = go _ q (found-each P es n x a.1)
 
 module _ (g : System) (all : AllAgree g) (d : Durable) (v : Option Server) (p : List (ℕ × Msg)) (γ : Ghost) (next : g.durable.next_id ≤ d.next_id) (m : Moves g γ) where
   abbrev h : System
-  h = behind g d v p γ
+  h = system_behind g d v p γ
 
   -- no id is 0
   pub zeros-behind : ZerosAgree g → ZerosAgree h

@@ -6,10 +6,10 @@ use Rattle.ec_wire.specs.declared.msg.Msg.TheVariants.{Hello, Want, Back, Flush,
 use Rattle.ec_protocol.specs.Clerk.{doing, take, taken}
 use Rattle.ec_protocol.specs.declared.clerk.Clerk.{Clerk}
 use Rattle.ec_coherence.specs.System.{System}
-use Rattle.ec_clerk_steps.specs.JoinLaws.{joined}
+use Rattle.ec_clerk_steps.specs.JoinLaws.{ghosts_joined}
 use Rattle.ec_clerk_steps.proofs.Cases as cases
 use Rattle.ec_clerk_steps.proofs.Spent.{spent-stays}
-use Rattle.ec_lawful.specs.Steps.{IsDone}
+use Rattle.ec_lawful.specs.Steps.{StepIsDone}
 use Rattle.ec_lawful.specs.Whole.{Whole}
 use Rattle.ec_lawful.specs.SettleLaws.{IsLined, TriesAll}
 use Rattle.ec_lawful.proofs.Settling as settling
@@ -20,7 +20,7 @@ use Rattle.ec_lawful.proofs.Plain.{takes-grant-so, takes-ids-so, takes-kept-so, 
 
 module _ (g : System) (whole : Whole g) (c b : ℕ) (k : Clerk) (runs : g.running c ≡ Some b) (at-start : g.clerks c b ≡ Some k) where
   abbrev pub Goes : Msg → Type 0
-  Goes m = T (is_some (taken m (doing k)).spent) ⊎ IsLined g c b (taken m (doing k)) (joined c m (doing k) g.ghost)
+  Goes m = T (is_some (taken m (doing k)).spent) ⊎ IsLined g c b (taken m (doing k)) (ghosts_joined c m (doing k) g.ghost)
 
   -- in no session
   outside : k.session ≡ None → (m : Msg) → Contains g.pool (c, m) → Goes m
@@ -57,8 +57,8 @@ module _ (g : System) (whole : Whole g) (c b : ℕ) (k : Clerk) (runs : g.runnin
       go None e = outside e m p
       go (Some s) e = inside s e m p q
 
-  pub messages-done : TriesAll g c b → (m : Msg) → Contains g.pool (c, m) → AnswersNone k m → IsDone Whole g c b (take m k)
+  pub messages-done : TriesAll g c b → (m : Msg) → Contains g.pool (c, m) → AnswersNone k m → StepIsDone Whole g c b (take m k)
   messages-done tries m p q = elim (messages-stand m p q) [
     | inl n ↦ inl (spent-stays.settle (taken m (doing k)) n)
-    | inr l ↦ settling.takes g whole c b k runs at-start tries m (joined c m (doing k) g.ghost) l
+    | inr l ↦ settling.takes g whole c b k runs at-start tries m (ghosts_joined c m (doing k) g.ghost) l
   ]

@@ -11,7 +11,7 @@ use Rattle.ec_coherence.specs.Steps.{doing_in}
 use Rattle.ec_coherence.proofs.Tables.{at-put}
 use Rattle.ec_coherence.specs.CommitLaws.{AllAgree}
 use Rattle.ec_coherence.specs.StandLaws.{lined}
-use Rattle.ec_clerk_steps.specs.Trying.{Answers}
+use Rattle.ec_clerk_steps.specs.Trying.{AnswersWith}
 use Rattle.ec_laws.specs.Accounts.{LinesTell}
 use Rattle.ec_lawful.specs.Headline.{FrontsAreLawful}
 use Rattle.ec_lawful.specs.HeadlineLaws.{TellsAll}
@@ -41,7 +41,7 @@ module _ (g : System) (c b : ℕ) (d e : Doing) (γ : Ghost) where
       other n p le = grind arith
 
   -- a call is answered
-  pub answer-step-tells : (δ : Ghost) (l : ℕ) (cl : Call) (a : Answer) (op : Option ℕ) → AllAgree (doing_in c b d γ g) → AllAgree (doing_in c b e δ g) → Answers g c b d γ l cl a op δ → TellsAll (doing_in c b d γ g) → TellsAll (doing_in c b e δ g)
+  pub answer-step-tells : (δ : Ghost) (l : ℕ) (cl : Call) (a : Answer) (op : Option ℕ) → AllAgree (doing_in c b d γ g) → AllAgree (doing_in c b e δ g) → AnswersWith g c b d γ l cl a op δ → TellsAll (doing_in c b d γ g) → TellsAll (doing_in c b e δ g)
   answer-step-tells δ l cl a op before behind (inl q) t = line-step-tells δ (show.Answered l c cl a op) before behind (ap (λ x. x.shown) q) (λ p le. ap (λ x. at_or 0 p x.fresh) q ∙ put-later (length γ.shown) _ p γ.fresh le) t
   answer-step-tells δ l cl a op before behind (inr q) t = line-step-tells δ (show.Answered l c cl a op) before behind (ap (λ x. x.shown) q.4) (λ p le. ap (λ x. at_or 0 p x.fresh) q.4 ∙ put-later (length γ.shown) _ p γ.fresh le) t
 

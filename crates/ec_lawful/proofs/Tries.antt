@@ -19,7 +19,7 @@ use Rattle.ec_clerk_steps.proofs.Single.{each-mid}
 use Rattle.ec_lawful.specs.Whole.{ShowsAll}
 use Rattle.ec_lawful.specs.SettleLaws.{TriesAll}
 use Rattle.ec_lawful.specs.Rooms.{OneAnswers}
-use Rattle.ec_lawful.specs.Tries.{Shows}
+use Rattle.ec_lawful.specs.Tries.{ShowsOne}
 use Rattle.ec_lawful.proofs.Answering.{comes-so}
 use Rattle.ec_lawful.proofs.Tried.{ShownTried, tried}
 
@@ -57,7 +57,7 @@ module _ (g : System) (c b : ℕ) (L : Type 0) where
 pub tries-show : (g : System) (c b : ℕ) → TriesAll g c b
 tries-show g c b d γ t s = all-go g c b (Each (HasLine (doing_in c b d γ g) c) d.clerk.waiting) d (inr (γ, t, s, (λ l. l)))
 
-pub answers-show : (g : System) (c b : ℕ) → OneAnswers g c b (Shows g c b)
+pub answers-show : (g : System) (c b : ℕ) → OneAnswers g c b (ShowsOne g c b)
 answers-show g c b d γ i before rest w split a op gives suit passes =
     let x = comes-so g c b d γ i.trying i.also before rest w split a op gives suit (each-mid (HasLine (doing_in c b d γ g) c) before rest w (subst (Each (HasLine (doing_in c b d γ g) c)) split i.lines)).1 passes in
     (x.0, record { trying = x.1; lines = x.2; also = x.3 })

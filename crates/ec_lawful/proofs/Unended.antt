@@ -37,7 +37,7 @@ use Rattle.ec_coherence.specs.Tokens.{ClaimFits, side, side_in, tables_of, view}
 use Rattle.ec_coherence.proofs.Needs.{each-of}
 use Rattle.ec_coherence.proofs.OpenSlots.{at-open}
 use Rattle.ec_coherence.proofs.Tables.{fails}
-use Rattle.ec_coherence.specs.CommitLaws.{AllAgree, Stands}
+use Rattle.ec_coherence.specs.CommitLaws.{AllAgree, StepStands}
 use Rattle.ec_coherence.proofs.Claiming.{claims-clear}
 use Rattle.ec_coherence.proofs.BatchCommits.{flush-is}
 use Rattle.ec_coherence.proofs.Taking.{begins}
@@ -170,7 +170,7 @@ module _ (g : System) (v : Server) (whole : AllAgree g) (up : g.server ≡ Some 
   abbrev here : System
   here = serving_in t g.ghost g
 
-  st : Stands g t g.ghost
+  st : StepStands g t g.ghost
   st = begins g v whole up
 
   in-pool : (m : Msg) → Contains g.pool (c, m) → Contains here.pool (c, m)

@@ -10,7 +10,7 @@ use Rattle.ec_coherence.specs.Tokens.{Fits, Side, TokensAgree, eff, eff_of, side
 use Rattle.ec_coherence.proofs.Lists.{each-turn}
 use Rattle.ec_coherence.proofs.Restart.{down, started-agrees}
 use Rattle.ec_coherence.proofs.Tables.{same_some}
-use Rattle.ec_coherence.specs.CommitLaws.{AllAgree, Stands}
+use Rattle.ec_coherence.specs.CommitLaws.{AllAgree, StepStands}
 use Rattle.ec_coherence.proofs.Taking.{begins}
 use Rattle.ec_lawful.specs.Founds.{bare}
 use Rattle.ec_lawful.proofs.Downs.{InEpoch, in-epoch, moved-agrees}
@@ -80,5 +80,5 @@ module _ (g : System) (all : AllAgree (bare g)) where
     pub up-all : AllAgree up
     up-all = dressed-all (bare g) all n (Some first) None g.ghost.old g.pool [] (sym (append-nil g.pool)) (started-agrees (view (bare g)) n (all.0).tokens later) (λ s x. refl) (refl, refl) tt
 
-    pub up-begins : Stands up (serving first) g.ghost
+    pub up-begins : StepStands up (serving first) g.ghost
     up-begins = begins up first up-all refl

@@ -10,7 +10,7 @@ use Rattle.ec_coherence.specs.Stops.{RunsOn}
 use Rattle.ec_coherence.specs.Steps.{Stands}
 use Rattle.ec_coherence.specs.StandLaws.{stopped}
 use Rattle.ec_lawful.proofs.Keeps.{doubts-hold, restarts-hold}
-use Rattle.ec_lawful.specs.Steps.{Holds, IsStep}
+use Rattle.ec_lawful.specs.Steps.{HoldsIn, IsStep}
 use Rattle.ec_lawful.specs.Whole.{Whole}
 use Rattle.ec_lawful.proofs.Halts.{doubted-whole, found-whole, stopped-line-whole, stopped-whole, up-whole}
 
@@ -18,8 +18,8 @@ pub stops-keep : (g : System) (v : Server) → Whole g → g.server ≡ Some v �
 stops-keep g v w up = stopped-whole g w v up (subst (RunsOn g) up (w.all.0).stops.runs).1
 
 pub doubts-keep : (w : World) (g : System) → Whole g → Stands w g → (v : Server) → g.server ≡ Some v → (t : Serving) → IsStep g v t → (r : Record) → t.rec ≡ Some r → t.spent ≡ None
-    → Holds Whole (committed stops_without r t w).world × Holds Whole (committed stops_with r t w).world
+    → HoldsIn Whole (committed stops_without r t w).world × HoldsIn Whole (committed stops_with r t w).world
 doubts-keep w g f st v up t is r q n = doubts-hold Whole (λ h x. (x.all, x.doubts)) stops-keep (λ h u x p s from now. doubted-whole h x u p s from now) w g f st v up t is r q n
 
-pub restarts-keep : (w : World) (g : System) → Whole g → Stands w g → w.server ≡ None → (start w.durable).spent ≡ None → (fate : Fate) → Holds Whole (restart fate w).world
+pub restarts-keep : (w : World) (g : System) → Whole g → Stands w g → w.server ≡ None → (start w.durable).spent ≡ None → (fate : Fate) → HoldsIn Whole (restart fate w).world
 restarts-keep w g f st down spare fate = restarts-hold Whole (λ h x. (x.all, x.doubts)) stopped-line-whole (λ h x d r p m now. found-whole h x d r p now) (λ h x d s e now. up-whole h x d s e now) w g f st down spare fate

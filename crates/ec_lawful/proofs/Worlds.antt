@@ -94,7 +94,7 @@ module _ (d : Durable) (wf : WellFormed d) (sixteen : length d.sessions ≡ 16) 
   pub kept-by : StepsKeep F
   kept-by = keep clerks-keep-all (images d.volume) d.max_objects
 
-  pub opened-holds : (w : World) → open_world d ≡ Ok w → steps.Holds F w
+  pub opened-holds : (w : World) → open_world d ≡ Ok w → steps.HoldsIn F w
   opened-holds w q = (opened_in d, record { whole = opened-whole d wf sixteen zero; origin = refl; most_is = refl }, world-stands d sixteen w q)
 
   pub no-calls : (w : World) → open_world d ≡ Ok w → w.calls ≡ []
@@ -105,7 +105,7 @@ module _ (d : Durable) (wf : WellFormed d) (sixteen : length d.sessions ≡ 16) 
 
   -- all facts hold of it, and its calls are within their bounds
   record Comes (w : World) : Type 0 where
-    holds : steps.Holds F w
+    holds : steps.HoldsIn F w
     of : AreOf IsBounded w
 
   comes : (w : World) → Reached d w → Comes w
@@ -126,7 +126,7 @@ module _ (d : Durable) (wf : WellFormed d) (sixteen : length d.sessions ≡ 16) 
         of = (line-tells IsBounded w (moving w) (quiet-tells IsBounded w k.of w refl refl) Unsettled tt).of;
       }
 
-  pub in-order-of : (w : World) → steps.Holds F w → EachLine (IsOf IsBounded) w.shown → IsInOrder (images d.volume) d.max_objects w
+  pub in-order-of : (w : World) → steps.HoldsIn F w → EachLine (IsOf IsBounded) w.shown → IsInOrder (images d.volume) d.max_objects w
   in-order-of w (g, f, st) bounded =
       let n = volumes-have-greatest d wf in
       subst (λ m. IsInOrder (images d.volume) m w) f.most_is

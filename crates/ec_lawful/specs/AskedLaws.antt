@@ -24,16 +24,16 @@ use Rattle.ec_lawful.specs.Founds.{Makes, bare, found_ghost, started_in, with_fo
 use Rattle.ec_lawful.specs.Olds.{opened_in}
 use Rattle.ec_lawful.specs.Headline.{AreEndsAsked, ArePieces}
 use Rattle.ec_lawful.specs.DrillRuns.{Closed}
-use Rattle.ec_lawful.specs.Steps.{Holds, begun, calling, in_call}
+use Rattle.ec_lawful.specs.Steps.{HoldsIn, clerk_begun, calling, in_call}
 use Rattle.ec_lawful.specs.Asked.{AsksAgree, EndsAsked, ended_by, with_event}
 
 -- a world stands in a system of which all facts and these hold
-abbrev pub Asks : (ℕ → ℕ) → System → Type 0
-Asks first g = AllAgree g × AsksAgree first g
+abbrev pub StandsAsked : (ℕ → ℕ) → System → Type 0
+StandsAsked first g = AllAgree g × AsksAgree first g
 
 -- behind each event without a fault, for each fate of the disk
 abbrev pub EventsAsk : Type 0
-EventsAsk = (first asked : ℕ → ℕ) (fate : Fate) (e : Event) (w : World) → Holds (Asks first) w → EndsAsked first asked w → (happen fate e w).fault ≡ None → EndsAsked first (with_event e asked) (happen fate e w).world
+EventsAsk = (first asked : ℕ → ℕ) (fate : Fate) (e : Event) (w : World) → HoldsIn (StandsAsked first) w → EndsAsked first asked w → (happen fate e w).fault ≡ None → EndsAsked first (with_event e asked) (happen fate e w).world
 
 -- and behind a restart
 abbrev pub RestartsAsk : Type 0
@@ -76,7 +76,7 @@ pub record StepsStay (first : ℕ → ℕ) (g : System) : Type 0 where
   pub pushes : (c b n : ℕ) (k : Clerk) (γ : Ghost) → AsksAgree first (doing_in c b (push n k) γ g)
   pub resends : (c b : ℕ) (k : Clerk) (γ : Ghost) → AsksAgree first (doing_in c b (resend k) γ g)
   pub calls : (c b l : ℕ) (cl : Call) (k : Clerk) (γ : Ghost) → AsksAgree first (doing_in c b (begin cl k) γ (in_call c l cl k g))
-  pub starts : (c l : ℕ) (cl : Call) (γ : Ghost) → let d = start_clerk c (g.boots c + 1) in AsksAgree first (doing_in c (g.boots c + 1) (calling cl d.outs d.clerk) γ (in_call c l cl d.clerk (begun c g)))
+  pub starts : (c l : ℕ) (cl : Call) (γ : Ghost) → let d = start_clerk c (g.boots c + 1) in AsksAgree first (doing_in c (g.boots c + 1) (calling cl d.outs d.clerk) γ (in_call c l cl d.clerk (clerk_begun c g)))
   -- and so does whatever leaves boots, starts and messages
   pub others : (h : System) → h.first_boot ≡ g.first_boot → h.boots ≡ g.boots → h.clerks ≡ g.clerks → h.pool ≡ g.pool → AsksAgree first h
 

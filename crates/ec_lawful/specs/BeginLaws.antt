@@ -19,7 +19,7 @@ use Rattle.ec_coherence.specs.StandLaws.{ClerkStands, IsUnderWay, lined}
 use Rattle.ec_clerk_steps.specs.Counts.{CountsAgree}
 use Rattle.ec_clerk_steps.specs.Cuts.{CutsAgree}
 use Rattle.ec_clerk_steps.specs.JoinLaws.{started}
-use Rattle.ec_lawful.specs.Steps.{IsNew, in_call}
+use Rattle.ec_lawful.specs.Steps.{LineIsNew, in_call}
 use Rattle.ec_clerk_steps.specs.Calls.{CallsAgree}
 use Rattle.ec_clerk_steps.specs.Waits.{AreAtRest, AreInTurn}
 use Rattle.ec_clerk_steps.specs.Zeros.{ZerosAgree}
@@ -33,7 +33,7 @@ pub record HasBegun (g : System) (c b : ℕ) (d : Doing) (γ : Ghost) : Type 0 w
 
 -- a call of a running clerk has begun; where its own step doesn't answer it, its line is shown
 abbrev pub CallsHaveBegun : Type 0
-CallsHaveBegun = (g : System) → AllAgree g → CallsAgree g → AreAtRest g → (c b : ℕ) (k : Clerk) → g.running c ≡ Some b → g.clerks c b ≡ Some k → (l : ℕ) (cl : Call) → IsNew g l → T (is_bounded cl)
+CallsHaveBegun = (g : System) → AllAgree g → CallsAgree g → AreAtRest g → (c b : ℕ) (k : Clerk) → g.running c ≡ Some b → g.clerks c b ≡ Some k → (l : ℕ) (cl : Call) → LineIsNew g l → T (is_bounded cl)
     → let h = in_call c l cl k g in HasBegun h c b (doing (add_call cl k)) h.ghost × (CutsAgree g → CutsAgree (doing_in c b (doing (add_call cl k)) h.ghost h))
 
 -- the calls under way with the first one of the clerk's next start
@@ -42,7 +42,7 @@ first_call c l cl g = put c (put 1 (l, cl) (at_or [] c g.calls)) g.calls
 
 -- the first call of a clerk's next start has begun, whose own step doesn't answer it
 abbrev pub StartsHaveBegun : Type 0
-StartsHaveBegun = (g : System) → AllAgree g → CallsAgree g → CountsAgree g → (c : ℕ) → c < 16 → g.running c ≡ None → (l : ℕ) (cl : Call) → IsNew g l → T (is_bounded cl)
+StartsHaveBegun = (g : System) → AllAgree g → CallsAgree g → CountsAgree g → (c : ℕ) → c < 16 → g.running c ≡ None → (l : ℕ) (cl : Call) → LineIsNew g l → T (is_bounded cl)
     → let b = g.boots c + 1 in let h = lined (started g c (first_call c l cl g)) (Waits l c cl) in let d = doing (add_call cl (new_clerk c b)) in
     HasBegun h c b d h.ghost × CountsAgree h × (CutsAgree g → CutsAgree (doing_in c b d h.ghost h))
 
@@ -62,7 +62,7 @@ behind_first g c l cl a =
 
 -- all facts stand there, and the step was that
 abbrev pub FreshStartsAnswer : Type 0
-FreshStartsAnswer = (g : System) → AllAgree g → CallsAgree g → AreAtRest g → CountsAgree g → ZerosAgree g → (c : ℕ) → c < 16 → g.running c ≡ None → (l : ℕ) (cl : Call) → IsNew g l → T (is_bounded cl)
+FreshStartsAnswer = (g : System) → AllAgree g → CallsAgree g → AreAtRest g → CountsAgree g → ZerosAgree g → (c : ℕ) → c < 16 → g.running c ≡ None → (l : ℕ) (cl : Call) → LineIsNew g l → T (is_bounded cl)
     → list_any (is_answer_to 1) (begin cl (new_clerk c (g.boots c + 1))).outs ≡ true
     → let b = g.boots c + 1 in
     (a : Answer) × (begin cl (new_clerk c b) ≡ record { clerk = answered_start c b; outs = out.Answer 1 a None ∷ []; spent = None })

@@ -24,6 +24,6 @@ pub record AreOf (P : ℕ → ℕ → Call → Type 0) (w : World) : Type 0 wher
   pub shown : EachLine (IsOf P) w.shown
 
 -- behind a step from w, the lines are those of the step behind those before it
-pub record Tells (P : ℕ → ℕ → Call → Type 0) (w : World) (m : Moving) : Type 0 where
+pub record TellsLines (P : ℕ → ℕ → Call → Type 0) (w : World) (m : Moving) : Type 0 where
   pub lines : m.world.shown ≡ w.shown ++ m.shown
   pub of : AreOf P m.world

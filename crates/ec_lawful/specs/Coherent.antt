@@ -22,7 +22,7 @@ pub record HasLicence (w : World) (c : ℕ) (k : Clerk) : Type 0 where
   pub in_session : k.session ≡ Some slot_of.session
 
 -- Under its licence the clerk c holds this token with this image of the object x.
-pub record Holds (w : World) (c x : ℕ) (h : Held) : Type 0 where
+pub record HoldsToken (w : World) (c x : ℕ) (h : Held) : Type 0 where
   pub clerk : Clerk
   pub licence : HasLicence w c clerk
   pub held : at x clerk.cache.held ≡ Some h
@@ -34,9 +34,9 @@ left_by base ks = after base.volume (updates ks)
 -- Two things hold of a coherent world, on this base of histories and with ids of the world read so.
 pub record IsCoherent (base : Base) (read : ℕ → ℕ) (w : World) : Type 0 where
   -- no two licences hold conflicting tokens
-  pub apart : (c d x : ℕ) (h k : Held) → c ≢ d → Holds w c x h → Holds w d x k → T (not (clash h.hold k.hold))
+  pub apart : (c d x : ℕ) (h k : Held) → c ≢ d → HoldsToken w c x h → HoldsToken w d x k → T (not (clash h.hold k.hold))
   -- each image held, with its ids so read, is the object's image in what is kept
-  pub images : (c x : ℕ) (h : Held) → Holds w c x h → image_by read h.image ≡ left_by base (kept base (place w.shown)) (read x)
+  pub images : (c x : ℕ) (h : Held) → HoldsToken w c x h → image_by read h.image ≡ left_by base (kept base (place w.shown)) (read x)
 
 -- These operations fit the base in turn, and leave a well-formed volume; in it each live object is reached from the root by names, where each one of the
 -- base is.

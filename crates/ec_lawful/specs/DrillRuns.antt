@@ -9,7 +9,7 @@ use Rattle.ec_protocol.specs.declared.world.World.{World}
 use Rattle.ec_coherence.specs.System.{System}
 use Rattle.ec_lawful.specs.Headline.{Lines, Pieces, joined}
 use Rattle.ec_lawful.specs.Calls.{AreOf}
-use Rattle.ec_lawful.specs.Steps.{Holds}
+use Rattle.ec_lawful.specs.Steps.{HoldsIn}
 use Rattle.ec_lawful.specs.Drills.{lines_in}
 
 -- the line of the script with this number is this call of this clerk
@@ -26,7 +26,7 @@ AreFit ls = Each IsFit ls
 
 -- A world behind these lines of the script, which gave these pieces.
 pub record Sofar (F : System → Type 0) (lines : Lines) (pieces : Pieces) (w : World) : Type 0 where
-  pub holds : Holds F w
+  pub holds : HoldsIn F w
   pub of : AreOf (IsCallIn lines) w
   pub shown : w.shown ≡ joined pieces
 

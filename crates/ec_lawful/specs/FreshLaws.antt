@@ -20,7 +20,7 @@ use Rattle.ec_clerk_steps.specs.DoingLaws.{IsIds, IsInHand}
 use Rattle.ec_clerk_steps.specs.Names.{NamesAgree}
 use Rattle.ec_coherence.specs.Answers.{Gives}
 use Rattle.ec_clerk_steps.specs.Answering.{Suits, answered_clerk}
-use Rattle.ec_clerk_steps.specs.Trying.{Answers, IsTrying}
+use Rattle.ec_clerk_steps.specs.Trying.{AnswersWith, IsTrying}
 use Rattle.ec_clerk_steps.specs.Zeros.{ZerosAgree}
 use Rattle.ec_lawful.specs.Creates.{creates}
 use Rattle.ec_lawful.specs.FreshIds.{AreQuiet}
@@ -97,5 +97,5 @@ TakenIdsStayFresh = (g : System) (c b s : ℕ) (d : Doing) (γ : Ghost) → IsIn
 -- behind the answer that a clerk's verdict gives, in a step under way
 abbrev pub TriesStayFresh : Type 0
 TriesStayFresh = (g : System) (c b : ℕ) (d : Doing) (γ : Ghost) → IsTrying g c b d γ → (ws : List Waiting) (cl : Call) → let left : Clerk = record (d.clerk) { waiting = ws } in
-    (a : Answer) (op : Option ℕ) (rest : Owed) → Gives g.durable.max_objects left (verdict cl left) a op rest → Suits (verdict cl left) left → (e : Doing) → e.clerk ≡ answered_clerk (verdict cl left) left → (l : ℕ) (δ : Ghost) → Answers g c b d γ l cl a op δ
+    (a : Answer) (op : Option ℕ) (rest : Owed) → Gives g.durable.max_objects left (verdict cl left) a op rest → Suits (verdict cl left) left → (e : Doing) → e.clerk ≡ answered_clerk (verdict cl left) left → (l : ℕ) (δ : Ghost) → AnswersWith g c b d γ l cl a op δ
     → IsTrying g c b e δ → FreshAgrees (doing_in c b d γ g) → FreshAgrees (doing_in c b e δ g)

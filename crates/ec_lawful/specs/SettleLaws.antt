@@ -18,7 +18,7 @@ use Rattle.ec_clerk_steps.specs.Counts.{CountsAgree}
 use Rattle.ec_lawful.specs.Doubts.{DoubtAgrees}
 use Rattle.ec_clerk_steps.specs.Frees.{FullsAgree}
 use Rattle.ec_clerk_steps.specs.Trying.{IsTrying}
-use Rattle.ec_lawful.specs.Steps.{IsDone}
+use Rattle.ec_lawful.specs.Steps.{StepIsDone}
 use Rattle.ec_lawful.specs.Whole.{ShowsAll, Whole}
 
 -- The step under way stands with all facts, each waiting call has its line, and the lines show what they should.
@@ -32,12 +32,12 @@ abbrev pub StepsBegin : Type 0
 StepsBegin = (g : System) → Whole g → (c b : ℕ) (k : Clerk) → g.running c ≡ Some b → g.clerks c b ≡ Some k → IsLined g c b (doing k) g.ghost × ((n : ℕ) → IsLined g c b (keep_push n (doing k)) g.ghost)
 
 -- it stands behind a function, with the same ghosts
-abbrev pub Keeps : (Doing → Doing) → Type 0
-Keeps f = (g : System) (c b : ℕ) (d : Doing) (γ : Ghost) → IsLined g c b d γ → IsLined g c b (f d) γ
+abbrev pub KeepsLined : (Doing → Doing) → Type 0
+KeepsLined f = (g : System) (c b : ℕ) (d : Doing) (γ : Ghost) → IsLined g c b d γ → IsLined g c b (f d) γ
 
 -- recalls are answered and pushes asked for, where the clerk has a session; and tokens beyond the capacity go back
 abbrev pub StepsAreReady : Type 0
-StepsAreReady = Keeps prepared × Keeps evict
+StepsAreReady = KeepsLined prepared × KeepsLined evict
 
 -- also where a call began in the step, before the others, of which no kept recall is ready
 abbrev pub CallsAreReady : Type 0
@@ -77,7 +77,7 @@ StepsEnd = (g : System) (c b : ℕ) (d : Doing) (γ : Ghost) → Beside g c → 
 
 -- a clerk sends again what is outstanding, or greets
 abbrev pub ResendsKeep : Type 0
-ResendsKeep = (g : System) → Whole g → (c b : ℕ) (k : Clerk) → g.running c ≡ Some b → g.clerks c b ≡ Some k → IsDone Whole g c b (resend k)
+ResendsKeep = (g : System) → Whole g → (c b : ℕ) (k : Clerk) → g.running c ≡ Some b → g.clerks c b ≡ Some k → StepIsDone Whole g c b (resend k)
 
 -- What is to be proved of the tries: the step stands behind them, unless a counter is spent, and each call has its line that had it before.
 abbrev pub TriesAll : System → ℕ → ℕ → Type 0

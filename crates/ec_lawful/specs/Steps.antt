@@ -26,23 +26,23 @@ use Rattle.ec_coherence.specs.StandLaws.{crashed, lined, stopped}
 use Rattle.ec_lawful.specs.Ties.{called, waiting}
 
 -- A running clerk's step is refused, because a counter is spent, or the facts hold behind it, with the lines that it shows.
-abbrev pub IsDone : (System → Type 0) → System → ℕ → ℕ → Doing → Type 0
-IsDone F g c b d = T (is_some d.spent) ⊎ ((γ : Ghost) × (γ.shown ≡ g.ghost.shown ++ out_lines c d.outs g.calls) × F (doing_in c b d γ g))
+abbrev pub StepIsDone : (System → Type 0) → System → ℕ → ℕ → Doing → Type 0
+StepIsDone F g c b d = T (is_some d.spent) ⊎ ((γ : Ghost) × (γ.shown ≡ g.ghost.shown ++ out_lines c d.outs g.calls) × F (doing_in c b d γ g))
 
 -- The same of a server's step.
 abbrev pub IsServed : (System → Type 0) → System → Serving → Type 0
-IsServed F g t = T (is_some t.spent) ⊎ ((γ : Ghost) × commits.Stands g t γ × F (serving_in t γ g))
+IsServed F g t = T (is_some t.spent) ⊎ ((γ : Ghost) × commits.StepStands g t γ × F (serving_in t γ g))
 
 -- a world stands in a system of which they hold
-abbrev pub Holds : (System → Type 0) → World → Type 0
-Holds F w = (g : System) × F g × Stands w g
+abbrev pub HoldsIn : (System → Type 0) → World → Type 0
+HoldsIn F w = (g : System) × F g × Stands w g
 
 -- a step that a running server makes of a message that was sent, or for the administrator
 abbrev pub IsStep : System → Server → Serving → Type 0
 IsStep g v t = ((c : ℕ) × (m : Msg) × Contains g.pool (c, m) × (t ≡ take c m v)) ⊎ ((c : ℕ) × (t ≡ end c v))
 
 -- no line and no call has this number
-pub record IsNew (g : System) (l : ℕ) : Type 0 where
+pub record LineIsNew (g : System) (l : ℕ) : Type 0 where
   pub unshown : list_any (is_numbered l) g.ghost.shown ≡ false
   pub unused : (c n k : ℕ) (cl : Call) → call_of c n g.calls ≡ Some (k, cl) → k < l
 
@@ -57,8 +57,8 @@ MayHappen w (event.Call c l cl) = IsNewIn w l × (c < 16) × T (is_bounded cl)
 MayHappen w _ = ⊤
 
 -- the clerk's next start runs
-abbrev pub begun : ℕ → System → System
-begun c g = record g { running = at_session c (Some (g.boots c + 1)) g.running; boots = at_session c (g.boots c + 1) g.boots }
+abbrev pub clerk_begun : ℕ → System → System
+clerk_begun c g = record g { running = at_session c (Some (g.boots c + 1)) g.running; boots = at_session c (g.boots c + 1) g.boots }
 
 -- the step of a call of a clerk, behind what came out of its start
 abbrev pub calling : Call → List Out → Clerk → Doing
@@ -76,17 +76,17 @@ pub record StepsKeep (F : System → Type 0) : Type 0 where
   -- it stops, also in such a step, without its record or with it
   pub stops : (g : System) (v : Server) → F g → g.server ≡ Some v → F (stopped g)
   pub doubts : (w : World) (g : System) → F g → Stands w g → (v : Server) → g.server ≡ Some v → (t : Serving) → IsStep g v t → (r : Record) → t.rec ≡ Some r → t.spent ≡ None
-      → Holds F (committed stops_without r t w).world × Holds F (committed stops_with r t w).world
+      → HoldsIn F (committed stops_without r t w).world × HoldsIn F (committed stops_with r t w).world
   -- it starts again, or the disk stops in that
-  pub restarts : (w : World) (g : System) → F g → Stands w g → w.server ≡ None → (server.start w.durable).spent ≡ None → (fate : Fate) → Holds F (restart fate w).world
+  pub restarts : (w : World) (g : System) → F g → Stands w g → w.server ≡ None → (server.start w.durable).spent ≡ None → (fate : Fate) → HoldsIn F (restart fate w).world
   -- a running clerk takes a message, is pushed, or sends again
-  pub messages : (g : System) (c b : ℕ) (k : Clerk) → F g → g.running c ≡ Some b → g.clerks c b ≡ Some k → (m : Msg) → Contains g.pool (c, m) → IsDone F g c b (take_message m k)
-  pub pushes : (g : System) (c b : ℕ) (k : Clerk) → F g → g.running c ≡ Some b → g.clerks c b ≡ Some k → (n : ℕ) → IsDone F g c b (push n k)
-  pub resends : (g : System) (c b : ℕ) (k : Clerk) → F g → g.running c ≡ Some b → g.clerks c b ≡ Some k → IsDone F g c b (resend k)
+  pub messages : (g : System) (c b : ℕ) (k : Clerk) → F g → g.running c ≡ Some b → g.clerks c b ≡ Some k → (m : Msg) → Contains g.pool (c, m) → StepIsDone F g c b (take_message m k)
+  pub pushes : (g : System) (c b : ℕ) (k : Clerk) → F g → g.running c ≡ Some b → g.clerks c b ≡ Some k → (n : ℕ) → StepIsDone F g c b (push n k)
+  pub resends : (g : System) (c b : ℕ) (k : Clerk) → F g → g.running c ≡ Some b → g.clerks c b ≡ Some k → StepIsDone F g c b (resend k)
   -- its call begins, or that of its next start
-  pub calls : (g : System) (c b : ℕ) (k : Clerk) → F g → g.running c ≡ Some b → g.clerks c b ≡ Some k → (l : ℕ) (cl : Call) → IsNew g l → T (is_bounded cl) → IsDone F (in_call c l cl k g) c b (begin cl k)
-  pub starts : (g : System) (c : ℕ) → F g → g.running c ≡ None → c < 16 → (l : ℕ) (cl : Call) → IsNew g l → T (is_bounded cl) → (start c (g.boots c + 1)).spent ≡ None
-      → let d = start c (g.boots c + 1) in IsDone F (in_call c l cl d.clerk (begun c g)) c (g.boots c + 1) (calling cl d.outs d.clerk)
+  pub calls : (g : System) (c b : ℕ) (k : Clerk) → F g → g.running c ≡ Some b → g.clerks c b ≡ Some k → (l : ℕ) (cl : Call) → LineIsNew g l → T (is_bounded cl) → StepIsDone F (in_call c l cl k g) c b (begin cl k)
+  pub starts : (g : System) (c : ℕ) → F g → g.running c ≡ None → c < 16 → (l : ℕ) (cl : Call) → LineIsNew g l → T (is_bounded cl) → (start c (g.boots c + 1)).spent ≡ None
+      → let d = start c (g.boots c + 1) in StepIsDone F (in_call c l cl d.clerk (clerk_begun c g)) c (g.boots c + 1) (calling cl d.outs d.clerk)
   -- it crashes
   pub crashes : (g : System) → F g → (c : ℕ) → F (crashed g c)
   -- lines that say nothing of nodes

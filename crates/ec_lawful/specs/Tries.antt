@@ -12,8 +12,8 @@ abbrev pub EachTries : Type 0
 EachTries = (g : System) (c b : ℕ) → TriesAll g c b
 
 -- and behind a single answer
-abbrev pub Shows : System → ℕ → ℕ → Doing → Ghost → Type 0
-Shows g c b d γ = ShowsAll (doing_in c b d γ g)
+abbrev pub ShowsOne : System → ℕ → ℕ → Doing → Ghost → Type 0
+ShowsOne g c b d γ = ShowsAll (doing_in c b d γ g)
 
 abbrev pub EachAnswers : Type 0
-EachAnswers = (g : System) (c b : ℕ) → OneAnswers g c b (Shows g c b)
+EachAnswers = (g : System) (c b : ℕ) → OneAnswers g c b (ShowsOne g c b)

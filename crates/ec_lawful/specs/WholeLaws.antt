@@ -10,7 +10,7 @@ use Rattle.ec_protocol.specs.declared.world.World.{World}
 use Rattle.ec_coherence.specs.System.{System}
 use Rattle.ec_coherence.specs.Steps.{Stands}
 use Rattle.ec_coherence.specs.StandLaws.{crashed, lined, stopped}
-use Rattle.ec_lawful.specs.Steps.{Holds, IsServed, IsStep}
+use Rattle.ec_lawful.specs.Steps.{HoldsIn, IsServed, IsStep}
 use Rattle.ec_lawful.specs.Whole.{Whole}
 
 -- behind each step of a running server, with its record and its messages
@@ -23,11 +23,11 @@ StopsKeep = (g : System) (v : Server) → Whole g → g.server ≡ Some v → Wh
 
 abbrev pub DoubtsKeep : Type 0
 DoubtsKeep = (w : World) (g : System) → Whole g → Stands w g → (v : Server) → g.server ≡ Some v → (t : Serving) → IsStep g v t → (r : Record) → t.rec ≡ Some r → t.spent ≡ None
-    → Holds Whole (committed stops_without r t w).world × Holds Whole (committed stops_with r t w).world
+    → HoldsIn Whole (committed stops_without r t w).world × HoldsIn Whole (committed stops_with r t w).world
 
 -- behind a restart, whatever the disk does in it
 abbrev pub RestartsKeep : Type 0
-RestartsKeep = (w : World) (g : System) → Whole g → Stands w g → w.server ≡ None → (start w.durable).spent ≡ None → (fate : Fate) → Holds Whole (restart fate w).world
+RestartsKeep = (w : World) (g : System) → Whole g → Stands w g → w.server ≡ None → (start w.durable).spent ≡ None → (fate : Fate) → HoldsIn Whole (restart fate w).world
 
 -- behind a crash, and lines that say nothing of nodes
 abbrev pub CrashesKeep : Type 0

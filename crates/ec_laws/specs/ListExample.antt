@@ -23,8 +23,8 @@ one_file = images ((1, Dir 493 0 0 ((102 ∷ [], 2) ∷ [])) ∷ (2, file) ∷ [
 abbrev pub early : Update
 early = Put 2 0 (120 ∷ []) true
 
-abbrev pub late : Update
-late = Put 2 2 (121 ∷ []) true
+abbrev pub late_put : Update
+late_put = Put 2 2 (121 ∷ []) true
 
 abbrev pub new_mode : Update
 new_mode = Mode 2 384
@@ -37,10 +37,10 @@ abbrev pub op : ℕ → Update → Op
 op n u = record { clerk = 0; boot = 1; number = n; place = n; update = u }
 
 abbrev pub overwrites : List Op
-overwrites = op 1 early ∷ op 2 late ∷ []
+overwrites = op 1 early ∷ op 2 late_put ∷ []
 
-abbrev pub numbered : Issued
-numbered = (1, early) ∷ (2, late) ∷ (3, new_mode) ∷ []
+abbrev pub numbered_puts : Issued
+numbered_puts = (1, early) ∷ (2, late_put) ∷ (3, new_mode) ∷ []
 
 -- One start of a clerk makes the file f, and the next one writes it.
 abbrev pub two_starts : History

@@ -10,24 +10,24 @@ ghost use Rattle.ec_history.specs.History.{Each, Throughout, updates, of_start, 
 ghost use Rattle.ec_history.specs.Legal.{touches_none, IsLegal, from_formatted, is_closed, leaves};
 ghost use Rattle.ec_laws.specs.Needs.{holds_needed};
 ghost use Rattle.ec_laws.specs.Example.{two_files, writes};
-ghost use Rattle.ec_laws.specs.ListExample.{file, one_file, early, late, new_mode, make_g, overwrites, numbered, two_starts};
+ghost use Rattle.ec_laws.specs.ListExample.{file, one_file, early, late_put, new_mode, make_g, overwrites, numbered_puts, two_starts};
 
 /// Two overwrites and a new file fit; the overwrites change the file's operands alone, and the new
 /// file is a stranger to them.
 pub fn lists_can_fit()
-    ensures tried { T (list_all (λ u. list_all (λ o. fits_in_turn o (one_file o) (early ∷ late ∷ make_g ∷ [])) (operands u)) (early ∷ late ∷ make_g ∷ [])) }
-    ensures fitting { first_unfit late (after one_file (early ∷ [])) (operands late) ≡ None }
-    ensures strangers { share late make_g ≡ false }
+    ensures tried { T (list_all (λ u. list_all (λ o. fits_in_turn o (one_file o) (early ∷ late_put ∷ make_g ∷ [])) (operands u)) (early ∷ late_put ∷ make_g ∷ [])) }
+    ensures fitting { first_unfit late_put (after one_file (early ∷ [])) (operands late_put) ≡ None }
+    ensures strangers { share late_put make_g ≡ false }
     ensures equal { (o : ℕ) → filter (has_operand o) (early ∷ make_g ∷ []) ≡ filter (has_operand o) (make_g ∷ early ∷ []) }
-    ensures elsewhere { list_any (has_operand 3) (early ∷ late ∷ []) ≡ false }
+    ensures elsewhere { list_any (has_operand 3) (early ∷ late_put ∷ []) ≡ false }
 {}
 
 /// The overwrites fit the file, and their ranges don't meet.
 pub fn overwrites_can_be_apart()
-    ensures overwrites { (is_overwrite early ≡ true) × (is_overwrite late ≡ true) }
-    ensures one_file { (has_operand 2 early ≡ true) × (has_operand 2 late ≡ true) }
-    ensures fitting { T (fits early 2 file) × T (fits late 2 file) }
-    ensures apart { under early late ≡ false }
+    ensures overwrites { (is_overwrite early ≡ true) × (is_overwrite late_put ≡ true) }
+    ensures one_file { (has_operand 2 early ≡ true) × (has_operand 2 late_put ≡ true) }
+    ensures fitting { T (fits early 2 file) × T (fits late_put 2 file) }
+    ensures apart { under early late_put ≡ false }
 {}
 
 /// The later overwrite needs nothing of the earlier one: it may come first, and stay where the
@@ -42,12 +42,12 @@ pub fn sets_can_hold_their_needs()
 /// The change of mode needs both overwrites; a set of the later one alone holds its needs, and so
 /// does the earlier one among the rest.
 pub fn closures_can_be_met()
-    ensures rising { T (is_sorted nat_cmp numbered) }
-    ensures of_mode { closure (λ n. n == 3) numbered ≡ numbered }
-    ensures of_overwrite { closure (λ n. n == 2) numbered ≡ (2, late) ∷ [] }
-    ensures inside { T (holds_needed (λ x. x.1) (λ x. x.0 == 2) numbered) }
-    ensures whole { T (holds_needed (λ x. x.1) (λ x. member x.0 (map (λ y. y.0) numbered)) numbered) }
-    ensures next { T (holds_needed (λ x. x.1) (λ x. x.0 == 1) (filter (λ x. not (x.0 == 2)) numbered)) }
+    ensures rising { T (is_sorted nat_cmp numbered_puts) }
+    ensures of_mode { closure (λ n. n == 3) numbered_puts ≡ numbered_puts }
+    ensures of_overwrite { closure (λ n. n == 2) numbered_puts ≡ (2, late_put) ∷ [] }
+    ensures inside { T (holds_needed (λ x. x.1) (λ x. x.0 == 2) numbered_puts) }
+    ensures whole { T (holds_needed (λ x. x.1) (λ x. member x.0 (map (λ y. y.0) numbered_puts)) numbered_puts) }
+    ensures next { T (holds_needed (λ x. x.1) (λ x. x.0 == 1) (filter (λ x. not (x.0 == 2)) numbered_puts)) }
 {}
 
 /// Of two starts' writes one may be lost: what is left of its start is not ordered after it, and

@@ -70,18 +70,18 @@ module _ (most : ℕ) (l : Layout) (headed : IsHeaded most l) where
     second_word_leaves = leaves_only (InRange 8 8) (LiesIfWhole l) old mid first (λ c after is. absurd (still_other c after is))
 
     module _ (given : mid.may_leave mid.gives) (synced : IsSynced mid) (wrote : mid.gives ≡ written 8 (second_word most) old.gives) (new : View) (second : Ran (InRange 0 8) mid new) where
-      each : (c : List ℕ) → After mid (InRange 0 8) c → LiesIfWhole l c
-      each c after =
+      each_leaves : (c : List ℕ) → After mid (InRange 0 8) c → LiesIfWhole l c
+      each_leaves c after =
           let rest = in_head (InRange 8 8) (λ i r. omega (arith, r.1)) old.gives mid.gives awaits.side_stands awaits.slots_stand (loose mid.gives (first.crash mid.gives given)) in
           whole mid.gives c (ap (λ (image : List ℕ). part image 8 8) wrote ∙ part-written 8 (second_word most) old.gives) rest.0 rest.1
           (subst (λ d. Loose (InRange 0 8) d c) (synced after.0 after.1) after.2)
 
       pub head_leaves : LeavesOnly old new (LiesIfWhole l)
-      head_leaves = leaves_then (LiesIfWhole l) old mid new second_word_leaves (leaves_only (InRange 0 8) (LiesIfWhole l) mid new second each)
+      head_leaves = leaves_then (LiesIfWhole l) old mid new second_word_leaves (leaves_only (InRange 0 8) (LiesIfWhole l) mid new second each_leaves)
 
       pub head_done : IsSynced new → new.may_leave new.gives → new.gives ≡ written 0 first_word mid.gives → IsLaid new l
       head_done now_synced now_given is c left =
-          subst (λ image. Lies image l) (sym (now_synced c left)) (each new.gives (second.crash new.gives now_given) (ap (λ (image : List ℕ). part image 0 8) is ∙ part-written 0 first_word mid.gives))
+          subst (λ image. Lies image l) (sym (now_synced c left)) (each_leaves new.gives (second.crash new.gives now_given) (ap (λ (image : List ℕ). part image 0 8) is ∙ part-written 0 first_word mid.gives))
 
 -- An empty disk awaits the head, once the rest of the layout is written and synced.
 pub empty_awaits : (old new : View) (l : Layout) → length old.gives ≡ 0 → ((i : ℕ) → i < 4096 → byte new.gives i ≡ byte old.gives i) → IsSynced new → HasSide new.gives l.side l.table l.bodies → HasSlots new.gives l.slots → AwaitsHead new l

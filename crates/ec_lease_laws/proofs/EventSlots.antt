@@ -35,8 +35,8 @@ use Rattle.ec_coherence.proofs.Needs.{each-of}
 use Rattle.ec_coherence.proofs.TakesMaking.{end-stands, takes-any}
 use Rattle.ec_clerk_steps.proofs.Steps.{epoch-own}
 use Rattle.ec_lawful.specs.Asked.{IsNoBye}
-use Rattle.ec_lawful.specs.AskedLaws.{Asks}
-use Rattle.ec_lawful.specs.Steps.{Holds}
+use Rattle.ec_lawful.specs.AskedLaws.{StandsAsked}
+use Rattle.ec_lawful.specs.Steps.{HoldsIn}
 use Rattle.ec_lawful.proofs.Outs.{came-out}
 use Rattle.ec_lawful.proofs.Pool.{Sends, sends-all}
 use Rattle.ec_lawful.proofs.Unended.{EndsNone, EndsOne, end-ends-one, take-ends-none}
@@ -239,7 +239,7 @@ ends-him c (record_of.Open d age s) n = tt
 ends-him c (record_of.Ids d s got x) n = tt
 ends-him c (record_of.Epoch e) n = tt
 
-module _ (first : ℕ → ℕ) (fate : Fate) (w : World) (h : Holds (Asks first) w) where
+module _ (first : ℕ → ℕ) (fate : Fate) (w : World) (h : HoldsIn (StandsAsked first) w) where
   abbrev g : System
   g = h.0
 

@@ -21,10 +21,10 @@ use Rattle.ec_base.specs.declared.counter.Counter.{Counter}
 use Rattle.ec_lawful.proofs.Pool.{sends-all}
 use Rattle.ec_coherence.specs.Stops.{RunsOn}
 use Rattle.ec_coherence.proofs.Tables.{same_some}
-use Rattle.ec_lawful.specs.AskedLaws.{Asks}
-use Rattle.ec_lawful.specs.Steps.{Holds}
+use Rattle.ec_lawful.specs.AskedLaws.{StandsAsked}
+use Rattle.ec_lawful.specs.Steps.{HoldsIn}
 use Rattle.ec_lease_machine.specs.World.{open_in, open_session, resume, session, wait}
-use Rattle.ec_lease_machine.specs.Leases.{LeaseMoving, begin_each, begin_queued, end, ends_at, event_happens, fails, grant, hand, happens, in_world, is_held, is_kept, is_started, may_receive, moment_in, moved, moving, note_open, noted_if_started, nothing, nth, onward, opened, queue, receive, shows, step, with_queue, world_happens}
+use Rattle.ec_lease_machine.specs.Leases.{LeaseMoving, begin_each, begin_queued, end, ends_at, event_happens, fails, grant, hand, happens, in_world, is_held, is_kept, is_started, may_receive, moment_in, moved, moving, note_open, noted_if_started, nothing, nth, onward, opened_leases, queue, receive, shows, step, with_queue, world_happens}
 use Rattle.ec_lease_machine.specs.declared.world.Lease.{Lease}
 use Rattle.ec_lease_machine.specs.declared.world.LeaseEvent.{LeaseEvent}
 use Rattle.ec_lease_machine.specs.declared.world.LeaseEvent.TheVariants as event
@@ -41,7 +41,7 @@ use Rattle.ec_base.proofs.Options.{none_some, no-fault}
 use Rattle.ec_base.proofs.Numbers.{none_more, above}
 
 -- What the server says is open is open on the disk.
-pub served : (first : ℕ → ℕ) (w : World) → Holds (Asks first) w → AreServed w
+pub served : (first : ℕ → ℕ) (w : World) → HoldsIn (StandsAsked first) w → AreServed w
 served first w (g, h, st) c s q = by w.server refl q
   where
     by : (o : Option Server) → w.server ≡ o → elim o as (λ z. Option ℕ) [ None ↦ None | Some v ↦ open_in (slot v.durable c) ] ≡ Some s → IsOpenOn w.durable c s × (s < w.durable.next_session)
@@ -130,7 +130,7 @@ queued-agrees (c ∷ cs) m a f = by m.fault refl (λ x e. queued-agrees cs (gone
 
 -- Each event.
 
-module _ (first : ℕ → ℕ) (fate : Fate) (x : LeaseWorld) (h : Holds (Asks first) x.world) (a : LeasesAgree x) where
+module _ (first : ℕ → ℕ) (fate : Fate) (x : LeaseWorld) (h : HoldsIn (StandsAsked first) x.world) (a : LeasesAgree x) where
   -- one that ends no session
   happens-agrees : (e : Event) → ((c : ℕ) → EndsOf e c → ⊥) → (world_happens fate e x).fault ≡ None → LeasesAgree (world_happens fate e x).world
   happens-agrees e none f = moved-agrees x (happen fate e x.world) (λ q. world-agrees (EndsOf e) x (happen fate e x.world).world (event-goes first fate x.world h e q) a (λ c sl n p o. absurd (none c n))) f
@@ -322,7 +322,7 @@ module _ (first : ℕ → ℕ) (fate : Fate) (x : LeaseWorld) (h : Holds (Asks f
   pub step-agrees : (e : LeaseEvent) → (step fate e x).fault ≡ None → LeasesAgree (step fate e x).world
   step-agrees e f = queued-agrees clerks (happens fate e x) (each-agrees e) f
 
-pub opening-agrees : (l e : ℕ) (w : World) → LeasesAgree (opened l e w)
+pub opening-agrees : (l e : ℕ) (w : World) → LeasesAgree (opened_leases l e w)
 opening-agrees l e w = record { new = λ c a i. none i; received = λ c a q. absurd (none_some q); noted = λ c sl q t a i. none i; past = λ c sl q t a i. none i }
   where
     none : {A : Type 0} {b : Lease} → Contains [] b → A

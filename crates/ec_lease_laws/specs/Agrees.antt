@@ -5,9 +5,9 @@ use Rattle.ec_sessions.specs.declared.slot.Slot.{Slot}
 use Rattle.ec_durable.specs.Durable.{slot}
 use Rattle.ec_protocol.specs.World.{Fate}
 use Rattle.ec_protocol.specs.declared.world.World.{World}
-use Rattle.ec_lawful.specs.AskedLaws.{Asks}
-use Rattle.ec_lawful.specs.Steps.{Holds}
-use Rattle.ec_lease_machine.specs.Leases.{moment_in, opened, step}
+use Rattle.ec_lawful.specs.AskedLaws.{StandsAsked}
+use Rattle.ec_lawful.specs.Steps.{HoldsIn}
+use Rattle.ec_lease_machine.specs.Leases.{moment_in, opened_leases, step}
 use Rattle.ec_lease_machine.specs.declared.world.Lease.{Lease}
 use Rattle.ec_lease_machine.specs.declared.world.LeaseEvent.{LeaseEvent}
 use Rattle.ec_lease_machine.specs.declared.world.LeaseWorld.{LeaseWorld}
@@ -35,7 +35,7 @@ pub record LeasesAgree (x : LeaseWorld) : Type 0 where
 
 -- Nothing was issued yet at the opening, and so it is behind each step, whatever the disk does and whatever clocks show.
 abbrev pub OpeningAgrees : Type 0
-OpeningAgrees = (l e : ℕ) (w : World) → LeasesAgree (opened l e w)
+OpeningAgrees = (l e : ℕ) (w : World) → LeasesAgree (opened_leases l e w)
 
 abbrev pub LeasesStay : Type 0
-LeasesStay = (first : ℕ → ℕ) (fate : Fate) (e : LeaseEvent) (x : LeaseWorld) → Holds (Asks first) x.world → LeasesAgree x → (step fate e x).fault ≡ None → LeasesAgree (step fate e x).world
+LeasesStay = (first : ℕ → ℕ) (fate : Fate) (e : LeaseEvent) (x : LeaseWorld) → HoldsIn (StandsAsked first) x.world → LeasesAgree x → (step fate e x).fault ≡ None → LeasesAgree (step fate e x).world

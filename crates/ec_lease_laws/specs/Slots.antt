@@ -7,8 +7,8 @@ use Rattle.ec_protocol.specs.World.{Fate, happen}
 use Rattle.ec_protocol.specs.declared.world.Event.{Event}
 use Rattle.ec_protocol.specs.declared.world.Event.TheVariants.{End}
 use Rattle.ec_protocol.specs.declared.world.World.{World}
-use Rattle.ec_lawful.specs.AskedLaws.{Asks}
-use Rattle.ec_lawful.specs.Steps.{Holds}
+use Rattle.ec_lawful.specs.AskedLaws.{StandsAsked}
+use Rattle.ec_lawful.specs.Steps.{HoldsIn}
 
 -- A slot has the session that it had, as open as it was, or a new one, which is open; or its session ended, of one of these clerks.
 pub data Became (Ends : ℕ → Type 0) (d : Durable) (c : ℕ) (sl : Slot) : Type 0 where
@@ -27,4 +27,4 @@ EndsOf _ d = ⊥
 
 -- so it is behind each event, whatever the disk does
 abbrev pub EventsLeaveSlots : Type 0
-EventsLeaveSlots = (first : ℕ → ℕ) (fate : Fate) (e : Event) (w : World) → Holds (Asks first) w → (happen fate e w).fault ≡ None → SlotsGo (EndsOf e) w.durable (happen fate e w).world.durable
+EventsLeaveSlots = (first : ℕ → ℕ) (fate : Fate) (e : Event) (w : World) → HoldsIn (StandsAsked first) w → (happen fate e w).fault ≡ None → SlotsGo (EndsOf e) w.durable (happen fate e w).world.durable

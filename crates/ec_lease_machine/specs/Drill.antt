@@ -14,7 +14,7 @@ use Rattle.ec_protocol.specs.declared.world.Event.{Event}
 use Rattle.ec_protocol.specs.declared.world.Event.TheVariants as of_world
 use Rattle.ec_protocol.specs.declared.world.WorldFault.TheVariants as world_fault
 use Rattle.ec_lease_machine.specs.World.{due_but}
-use Rattle.ec_lease_machine.specs.Leases.{LeaseMoving, fails, held, in_world, moved, moving, onward, opened, step}
+use Rattle.ec_lease_machine.specs.Leases.{LeaseMoving, fails, held, in_world, moved, moving, onward, opened_leases, step}
 use Rattle.ec_lease_machine.specs.declared.script.LeaseLine.{LeaseLine}
 use Rattle.ec_lease_machine.specs.declared.script.LeaseLine.TheVariants as lines
 use Rattle.ec_lease_machine.specs.declared.world.LeaseEvent.{LeaseEvent}
@@ -71,15 +71,15 @@ delivered fate n m = renewed (onward m (world_happens fate (of_world.Deliver n) 
 abbrev pub unsettled : LeaseMoving → LeaseMoving
 unsettled m = onward m (moved (show_line Unsettled (world.moving m.world.world)) m.world)
 
-abbrev pub due : LeaseWorld → Option ℕ
-due x = due_but (held x) x.world
+abbrev pub due_now : LeaseWorld → Option ℕ
+due_now x = due_but (held x) x.world
 
 abbrev pub settle : ℕ → Fates → LeaseMoving → LeaseMoving
-settle zero fates m = elim m.fault [ Some f ↦ m | None ↦ elim (due m.world) [ None ↦ m | Some n ↦ unsettled m ] ]
+settle zero fates m = elim m.fault [ Some f ↦ m | None ↦ elim (due_now m.world) [ None ↦ m | Some n ↦ unsettled m ] ]
 settle (suc k) fates m =
     elim m.fault [
       | Some f ↦ m
-      | None ↦ elim (due m.world) [ None ↦ m | Some n ↦ settle k (later_fates fates) (delivered (this_fate fates) n m) ]
+      | None ↦ elim (due_now m.world) [ None ↦ m | Some n ↦ settle k (later_fates fates) (delivered (this_fate fates) n m) ]
     ]
 
 abbrev pub carry_out : ℕ → Fates → ℕ → LeaseLine → LeaseWorld → LeaseMoving
@@ -92,16 +92,16 @@ pub data LeaseRead : Type 0 where
   reads : LeaseLine → ℕ → LeaseRead
   unfit : ℕ → LeaseRead
 
-abbrev pub clerk_of : LeaseLine → List ℕ
-clerk_of (lines.Drill l) = clerk_in l
-clerk_of (lines.Tick n) = []
-clerk_of (lines.Skew c s) = c ∷ []
-clerk_of (lines.Grant c) = c ∷ []
-clerk_of (lines.Hand c n) = c ∷ []
+abbrev pub clerks_in : LeaseLine → List ℕ
+clerks_in (lines.Drill l) = clerk_in l
+clerks_in (lines.Tick n) = []
+clerks_in (lines.Skew c s) = c ∷ []
+clerks_in (lines.Grant c) = c ∷ []
+clerks_in (lines.Hand c n) = c ∷ []
 
 abbrev pub named_in : List LeaseRead → List ℕ
 named_in [] = []
-named_in (reads l col ∷ ls) = clerk_of l ++ named_in ls
+named_in (reads l col ∷ ls) = clerks_in l ++ named_in ls
 named_in (unfit col ∷ ls) = named_in ls
 
 -- how many messages are delivered after a line before it's unsettled
@@ -114,9 +114,9 @@ pub record LeaseRan : Type 0 where
   pub pieces : List (List LeaseShown)
   pub ending : Ending
 
-abbrev pub ending_of : ℕ → ℕ → LeaseFault → Ending
-ending_of number col (fault.World (world_fault.Spent n)) = IsSpent n
-ending_of number col _ = BadLine number col
+abbrev pub lease_ending : ℕ → ℕ → LeaseFault → Ending
+lease_ending number col (fault.World (world_fault.Spent n)) = IsSpent n
+lease_ending number col _ = BadLine number col
 
 abbrev pub ends : LeaseWorld → List LeaseShown → Ending → LeaseRan
 ends x piece e = record { world = x; pieces = piece ∷ []; ending = e }
@@ -134,7 +134,7 @@ run_from k number (unfit col ∷ ls) fs x = ends x [] (BadLine number col)
 run_from k number (reads l col ∷ ls) fs x =
     let m = carry_out k (first_fates fs) number l x in
     elim m.fault [
-      | Some f ↦ ends m.world m.shown (ending_of number col f)
+      | Some f ↦ ends m.world m.shown (lease_ending number col f)
       | None ↦ elim (nat_lt max_pending (pending m.world.world)) [
         | true ↦ ends m.world m.shown (TooMany (pending m.world.world))
         | false ↦ piece_before m.shown (run_from k (number + 1) ls (rest_fates fs) (forgotten m.world))
@@ -148,24 +148,24 @@ is_stopped r = elim r.world.world.server [ None ↦ true | Some s ↦ false ]
 abbrev pub last_restart : LeaseRan → LeaseRan
 last_restart r =
     let m = world_happens runs of_world.Restart r.world in
-    elim m.fault [ Some f ↦ record r { ending = ending_of 0 0 f } | None ↦ record r { world = m.world; pieces = r.pieces ++ m.shown ∷ [] } ]
+    elim m.fault [ Some f ↦ record r { ending = lease_ending 0 0 f } | None ↦ record r { world = m.world; pieces = r.pieces ++ m.shown ∷ [] } ]
 
 abbrev pub close : Ending → LeaseRan → LeaseRan
 close (IsSpent n) r = r
 close _ r = elim (is_stopped r) [ true ↦ last_restart r | false ↦ r ]
 
-abbrev pub joined : List (List LeaseShown) → List LeaseShown
-joined [] = []
-joined (piece ∷ more) = piece ++ joined more
+abbrev pub joined_lease : List (List LeaseShown) → List LeaseShown
+joined_lease [] = []
+joined_lease (piece ∷ more) = piece ++ joined_lease more
 
 -- A drill with leases on a disk that stands for this state: its lines, the last one, and its status.
 
 abbrev pub drill_in : ℕ → ℕ → List LeaseRead → List Fates → Result World Counter → List LeaseShown × ℕ
 drill_in l e ls fs (Err n) = (show.Line (Spent n) ∷ [], status (IsSpent n))
 drill_in l e ls fs (Ok w) =
-    let ran = run_from (bound ls) 1 ls fs (opened l e w) in
+    let ran = run_from (bound ls) 1 ls fs (opened_leases l e w) in
     let r = close ran.ending ran in
-    (joined r.pieces ++ map show.Line (last_line r.ending), status r.ending)
+    (joined_lease r.pieces ++ map show.Line (last_line r.ending), status r.ending)
 
 abbrev pub drill : ℕ → ℕ → List LeaseRead → List Fates → Durable → List LeaseShown × ℕ
 drill l e ls fs d = drill_in l e ls fs (open_world d)

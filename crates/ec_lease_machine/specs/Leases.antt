@@ -225,5 +225,5 @@ abbrev pub step : Fate → LeaseEvent → LeaseWorld → LeaseMoving
 step fate e x = begin_queued clerks (happens fate e x)
 
 -- The opening of a world with Leases of this length, and clocks that differ by at most so much.
-abbrev pub opened : ℕ → ℕ → World → LeaseWorld
-opened length most w = record { world = w; length = length; most = most; now = 0; skews = []; issued = []; noted = []; leases = []; queued = [] }
+abbrev pub opened_leases : ℕ → ℕ → World → LeaseWorld
+opened_leases length most w = record { world = w; length = length; most = most; now = 0; skews = []; issued = []; noted = []; leases = []; queued = [] }

@@ -21,8 +21,8 @@ use Rattle.ec_clerk_steps.proofs.CallFrames.{lines-append}
 use Rattle.ec_lawful.specs.Calls.{EachCall, IsOf}
 use Rattle.ec_queues.specs.Queued.{MayResume}
 use Rattle.ec_lawful.specs.Steps.{IsNewIn, MayHappen}
-use Rattle.ec_queues.specs.Adds.{Adds, MayBe}
-use Rattle.ec_lease_worlds.specs.Queues.{AreApart, QueuesAgree}
+use Rattle.ec_queues.specs.Adds.{AddsCalls, MayBe}
+use Rattle.ec_lease_worlds.specs.Queues.{CallsAreApart, QueuesAgree}
 use Rattle.ec_base.proofs.Numbers.{same-self as same, flip, equal}
 use Rattle.ec_history.proofs.PlacingLemmas.{each-turn}
 
@@ -77,7 +77,7 @@ module _ (w : World) (c l : ℕ) (cl : Call) (may : MayResume w c l cl) where
   pub unused : EachCall (Apart l) w.calls
   unused d n k dl q = may.unused d n k dl q
 
-  pub may-still : (m : Moving) → Adds (Apart l) w m → MayResume m.world c l cl
+  pub may-still : (m : Moving) → AddsCalls (Apart l) w m → MayResume m.world c l cl
   may-still m t = record {
     shown = ap (list_any (is_numbered l)) t.lines ∙ list_any-append (is_numbered l) w.shown m.shown ∙ ap (λ z. z || list_any (is_numbered l) m.shown) may.shown;
     own = subst (EachLine (Agrees l c cl)) (sym t.lines) (lines-append (Agrees l c cl) w.shown m.shown may.own (each-turn (IsOf (Apart l)) (Agrees l c cl) (other-agrees l c cl) m.shown t.piece));
@@ -145,9 +145,9 @@ abbrev Queue : Type 0
 Queue = List (ℕ × Call)
 
 pub queues-same : (f h : ℕ → Queue) (w : World) → ((c : ℕ) → h c ≡ f c) → QueuesAgree f w → QueuesAgree h w
-queues-same f h w q a = record { may = λ c l cl i. a.may c l cl (subst (λ xs. Contains xs (l, cl)) (q c) i); apart = λ c. subst AreApart (sym (q c)) (a.apart c) }
+queues-same f h w q a = record { may = λ c l cl i. a.may c l cl (subst (λ xs. Contains xs (l, cl)) (q c) i); apart = λ c. subst CallsAreApart (sym (q c)) (a.apart c) }
 
-pub queues-on : (f : ℕ → Queue) (w : World) (m : Moving) → ((c l : ℕ) (cl : Call) → Contains (f c) (l, cl) → Adds (Apart l) w m) → QueuesAgree f w → QueuesAgree f m.world
+pub queues-on : (f : ℕ → Queue) (w : World) (m : Moving) → ((c l : ℕ) (cl : Call) → Contains (f c) (l, cl) → AddsCalls (Apart l) w m) → QueuesAgree f w → QueuesAgree f m.world
 queues-on f w m t a = record { may = λ c l cl i. may-still w c l cl (a.may c l cl i) m (t c l cl i); apart = a.apart }
 
 -- the queue of one clerk is this
@@ -168,8 +168,8 @@ module _ (f : ℕ → Queue) (w : World) (c : ℕ) (q : ℕ × Call) (qs : Queue
   pub head-may : MayResume w c q.0 q.1
   head-may = a.may c q.0 q.1 head-in
 
-  apart-own : AreApart (q ∷ qs)
-  apart-own = subst (λ z. AreApart (cond z (q ∷ qs) (f c))) (same c) (a.apart c)
+  apart-own : CallsAreApart (q ∷ qs)
+  apart-own = subst (λ z. CallsAreApart (cond z (q ∷ qs) (f c))) (same c) (a.apart c)
 
   pub in-rest : (d : ℕ) (r : ℕ × Call) → Contains (but c qs f d) r → Contains (but c (q ∷ qs) f d) r
   in-rest d r i = by (d == c) i
@@ -199,10 +199,10 @@ module _ (f : ℕ → Queue) (w : World) (c : ℕ) (q : ℕ × Call) (qs : Queue
   pub rest-agrees : QueuesAgree (but c qs f) w
   rest-agrees = record { may = λ d l cl i. a.may d l cl (in-rest d (l, cl) i); apart = λ d. its d }
     where
-      its : (d : ℕ) → AreApart (but c qs f d)
+      its : (d : ℕ) → CallsAreApart (but c qs f d)
       its d = by (d == c) refl (a.apart d)
         where
-          by : (z : Bool) → (d == c) ≡ z → AreApart (cond z (q ∷ qs) (f d)) → AreApart (cond z qs (f d))
+          by : (z : Bool) → (d == c) ≡ z → CallsAreApart (cond z (q ∷ qs) (f d)) → CallsAreApart (cond z qs (f d))
           by true e p = p.1
           by false e p = p
 
@@ -216,7 +216,7 @@ each-push : (P : ℕ × Call → Type 0) (xs : Queue) (q : ℕ × Call) → Each
 each-push P [] q e p = (p, tt)
 each-push P (x ∷ xs) q e p = (e.0, each-push P xs q e.1 p)
 
-apart-push : (xs : Queue) (q : ℕ × Call) → AreApart xs → Each (λ r. (q.0 == r.0) ≡ false) xs → AreApart (xs ++ q ∷ [])
+apart-push : (xs : Queue) (q : ℕ × Call) → CallsAreApart xs → Each (λ r. (q.0 == r.0) ≡ false) xs → CallsAreApart (xs ++ q ∷ [])
 apart-push [] q a e = (tt, tt)
 apart-push (x ∷ xs) q a e = (each-push (λ r. (r.0 == x.0) ≡ false) xs q a.0 e.0, apart-push xs q a.1 e.1)
 
@@ -230,9 +230,9 @@ queue-grows f w c q may new a = record { may = λ d l cl i. its d l cl (d == c) 
       | inr now ↦ subst (λ j. MayResume w j l cl) (sym (equal d c e)) (subst (λ r. MayResume w c r.0 r.1) now may)
     ]
 
-    apart : (d : ℕ) (z : Bool) → (d == c) ≡ z → AreApart (cond (d == c) (f c ++ q ∷ []) (f d))
-    apart d false e = subst (λ z. AreApart (cond z (f c ++ q ∷ []) (f d))) (sym e) (a.apart d)
-    apart d true e = subst (λ z. AreApart (cond z (f c ++ q ∷ []) (f d))) (sym e) (apart-push (f c) q (a.apart c) (each-contained (λ r. (q.0 == r.0) ≡ false) (f c) (λ r i. new c r.0 r.1 i)))
+    apart : (d : ℕ) (z : Bool) → (d == c) ≡ z → CallsAreApart (cond (d == c) (f c ++ q ∷ []) (f d))
+    apart d false e = subst (λ z. CallsAreApart (cond z (f c ++ q ∷ []) (f d))) (sym e) (a.apart d)
+    apart d true e = subst (λ z. CallsAreApart (cond z (f c ++ q ∷ []) (f d))) (sym e) (apart-push (f c) q (a.apart c) (each-contained (λ r. (q.0 == r.0) ≡ false) (f c) (λ r i. new c r.0 r.1 i)))
 
 -- Tables.
 

@@ -28,13 +28,13 @@ use Rattle.ec_clerk_steps.proofs.CallFrames.{lines-append}
 use Rattle.ec_queues.specs.Queued.{MayResume, MayWait}
 use Rattle.ec_queues.specs.Reached.{QueuedReached}
 use Rattle.ec_queues.specs.Reached as ways
-use Rattle.ec_lawful.specs.Steps.{Holds, MayHappen}
+use Rattle.ec_lawful.specs.Steps.{HoldsIn as Holds, MayHappen}
 use Rattle.ec_history.specs.Legal.{IsLegal}
 use Rattle.ec_history.specs.declared.shown.Shown.{Shown}
 use Rattle.ec_wire.specs.Messages.{same_kind}
 use Rattle.ec_wire.specs.declared.msg.MsgKind.TheVariants.{Ended}
 use Rattle.ec_lawful.specs.Asked.{AsksAgree}
-use Rattle.ec_lawful.specs.AskedLaws.{Asks}
+use Rattle.ec_lawful.specs.AskedLaws.{StandsAsked}
 use Rattle.ec_lawful.specs.Headline.{placed_on}
 use Rattle.ec_lawful.specs.Reached.{IsInOrder}
 use Rattle.ec_lawful.specs.Whole.{Whole}
@@ -45,14 +45,14 @@ use Rattle.ec_timely.specs.Timely.{IsTold, MayAnswer}
 use Rattle.ec_timely.proofs.Lines.{timely-append, timely-front}
 use Rattle.ec_timely.proofs.Steps.{event-timed, resume-timed}
 use Rattle.ec_lawful.specs.Olds.{opened_in}
-use Rattle.ec_queues.specs.Adds.{Adds, MayBe}
+use Rattle.ec_queues.specs.Adds.{AddsCalls, MayBe}
 use Rattle.ec_lawful.specs.Calls.{AreOf, IsOf}
 use Rattle.ec_history.specs.Placing.{EachLine}
 use Rattle.ec_coherence.specs.Steps.{call_of}
 use Rattle.ec_queues.proofs.Adds.{adds-of, event-adds, line-adds, nothing-adds, quiet-adds, resume-adds, wait-adds}
 use Rattle.ec_queues.proofs.Worlds.{queued-hold, queued-in-order}
 use Rattle.ec_lease_machine.specs.World.{is_kept_from, open_in, open_session, resume, session, wait}
-use Rattle.ec_lease_machine.specs.Leases.{held, LeaseMoving, begin_each, begin_queued, end, ends_at, event_happens, fails, grant, hand, happens, has_run_out, in_world, is_held, is_kept, is_started, issue, lease, may_receive, moment_in, moved, moving, note, note_open, note_slot, note_slots, noted_if_started, nothing, nth, opened, queue, receive, renew_each, renew_in, shows, step, with_queue, world_happens}
+use Rattle.ec_lease_machine.specs.Leases.{held, LeaseMoving, begin_each, begin_queued, end, ends_at, event_happens, fails, grant, hand, happens, has_run_out, in_world, is_held, is_kept, is_started, issue, lease, may_receive, moment_in, moved, moving, note, note_open, note_slot, note_slots, noted_if_started, nothing, nth, opened_leases, queue, receive, renew_each, renew_in, shows, step, with_queue, world_happens}
 use Rattle.ec_lease_machine.specs.declared.world.Lease.{Lease}
 use Rattle.ec_lease_machine.specs.declared.world.LeaseEvent.{LeaseEvent}
 use Rattle.ec_lease_machine.specs.declared.world.LeaseEvent.TheVariants as event
@@ -62,7 +62,7 @@ use Rattle.ec_lease_machine.specs.declared.world.LeaseShown.TheVariants.{Line, H
 use Rattle.ec_lease_machine.specs.declared.world.LeaseWorld.{LeaseWorld}
 use Rattle.ec_lease_laws.specs.Agrees.{LeasesAgree}
 use Rattle.ec_lease_worlds.specs.Printed.{IsLeased}
-use Rattle.ec_lease_worlds.specs.Queues.{AreApart, LeaseReached, LeasesReach, MayAsk, MayStep, QueuesAgree, queues, opens, steps, forgets, unsettles}
+use Rattle.ec_lease_worlds.specs.Queues.{CallsAreApart, LeaseReached, LeasesReach, MayAsk, MayStep, QueuesAgree, queues, opens, steps, forgets, unsettles}
 use Rattle.ec_lease_worlds.proofs.Queues.{Apart, at-put-queue, at-without-queue, but, event-apart, head-apart, head-in, head-may, in-rest, new-apart, queue-grows, queues-on, queues-same, rest-agrees, true-false, unused}
 use Rattle.ec_lease_laws.proofs.EventSlots.{resume-stays}
 use Rattle.ec_lease_laws.proofs.Steps.{begun, each-agrees, gone_on, opening-agrees, quiet-agrees}
@@ -128,7 +128,7 @@ module _ (d : Durable) (wf : WellFormed d) (sixteen : length d.sessions ≡ 16) 
   whole : (w : World) → QueuedReached d w → Holds Whole w
   whole w r = let h = holds w r in (h.0, h.1.0, h.2)
 
-  pub asks : (w : World) → QueuedReached d w → Holds (Asks (opened_in d).first_boot) w
+  pub asks : (w : World) → QueuedReached d w → Holds (StandsAsked (opened_in d).first_boot) w
   asks w r = let h = holds w r in (h.0, (h.1.0.all, h.1.1), h.2)
 
   -- A clerk that isn't held has nothing untold, if it's in a session.
@@ -197,8 +197,8 @@ module _ (d : Durable) (wf : WellFormed d) (sixteen : length d.sessions ≡ 16) 
   }
 
   -- a step of the world
-  moved-good : (x : LeaseWorld) (m : Moving) → Good x → (m.fault ≡ None → QueuedReached d m.world) → (m.fault ≡ None → (c l : ℕ) (cl : Call) → Contains (queues x c) (l, cl) → Adds (Apart l) x.world m)
-      → (m.fault ≡ None → AreTimely [] m.world.shown) → (m.fault ≡ None → Adds P x.world m) → (moved m x).fault ≡ None → Good (moved m x).world
+  moved-good : (x : LeaseWorld) (m : Moving) → Good x → (m.fault ≡ None → QueuedReached d m.world) → (m.fault ≡ None → (c l : ℕ) (cl : Call) → Contains (queues x c) (l, cl) → AddsCalls (Apart l) x.world m)
+      → (m.fault ≡ None → AreTimely [] m.world.shown) → (m.fault ≡ None → AddsCalls P x.world m) → (moved m x).fault ≡ None → Good (moved m x).world
   moved-good x m a r t i j f = by m.fault refl f
     where
       by : (o : Option WorldFault) → m.fault ≡ o → (elim o as (λ z. LeaseMoving) [ Some e ↦ fails (fault.World e) x | None ↦ shows (map Line m.shown) (in_world m.world x) ]).fault ≡ None
@@ -407,7 +407,7 @@ module _ (d : Durable) (wf : WellFormed d) (sixteen : length d.sessions ≡ 16) 
             none p = absurd (omega (arith, p))
         kept e l cl false i = a.queued.may e l cl i
 
-        apart : (e : ℕ) (z : Bool) → AreApart (cond z [] (queues x e))
+        apart : (e : ℕ) (z : Bool) → CallsAreApart (cond z [] (queues x e))
         apart e true = tt
         apart e false = a.queued.apart e
 
@@ -451,7 +451,7 @@ module _ (d : Durable) (wf : WellFormed d) (sixteen : length d.sessions ≡ 16) 
 
   -- Worlds that are opened, forget old messages, or show that a line didn't settle.
 
-  pub opens-good : (l e : ℕ) (w : World) → open_world d ≡ Ok w → Good (opened l e w)
+  pub opens-good : (l e : ℕ) (w : World) → open_world d ≡ Ok w → Good (opened_leases l e w)
   opens-good l e w q = record {
     reached = ways.opens w q;
     queued = record { may = λ c k cl i. none i.1; apart = λ c. tt };

@@ -41,8 +41,8 @@ use Rattle.ec_queues.specs.Reached.{QueuedReached}
 use Rattle.ec_queues.proofs.Adds.{event-adds, resume-adds}
 use Rattle.ec_queues.proofs.Worlds.{queued-in-order}
 use Rattle.ec_lease_machine.specs.World.{open_session, resume, resume_on}
-use Rattle.ec_lease_machine.specs.Drill.{LeaseRan, LeaseRead, bound, carry_out, close, delivered, drill_line, due, ending_of, ends, forgotten, is_stopped, joined, last_restart, line_happens, on_message, piece_before, reads, renewed, run_from, settle, unfit, unsettled, world_happens}
-use Rattle.ec_lease_machine.specs.Leases.{LeaseMoving, begin_each, begin_queued, end, ends_at, event_happens, fails, grant, hand, happens, in_world, is_held, is_kept, is_started, issue, may_receive, moved, moving, note_open, noted_if_started, nothing, nth, onward, opened, queue, receive, renew_each, shows, step, with_queue}
+use Rattle.ec_lease_machine.specs.Drill.{LeaseRan, LeaseRead, bound, carry_out, close, delivered, drill_line, due_now, lease_ending, ends, forgotten, is_stopped, joined_lease, last_restart, line_happens, on_message, piece_before, reads, renewed, run_from, settle, unfit, unsettled, world_happens}
+use Rattle.ec_lease_machine.specs.Leases.{LeaseMoving, begin_each, begin_queued, end, ends_at, event_happens, fails, grant, hand, happens, in_world, is_held, is_kept, is_started, issue, may_receive, moved, moving, note_open, noted_if_started, nothing, nth, onward, opened_leases as opened, queue, receive, renew_each, shows, step, with_queue}
 use Rattle.ec_lease_machine.specs.Leases as leases
 use Rattle.ec_lease_machine.specs.declared.script.LeaseLine.{LeaseLine}
 use Rattle.ec_lease_machine.specs.declared.script.LeaseLine.TheVariants as lines
@@ -411,9 +411,9 @@ module _ (d : Durable) (wf : WellFormed d) (sixteen : length d.sessions ≡ 16) 
         at-due None q = c
         at-due (Some n) q = unsettled-came ss m c q
 
-        by : (o : Option LeaseFault) → m.fault ≡ o → Came ss (elim o as (λ z. LeaseMoving) [ Some f ↦ m | None ↦ elim (due m.world) as (λ z. LeaseMoving) [ None ↦ m | Some n ↦ unsettled m ] ])
+        by : (o : Option LeaseFault) → m.fault ≡ o → Came ss (elim o as (λ z. LeaseMoving) [ Some f ↦ m | None ↦ elim (due_now m.world) as (λ z. LeaseMoving) [ None ↦ m | Some n ↦ unsettled m ] ])
         by (Some f) q = c
-        by None q = at-due (due m.world) q
+        by None q = at-due (due_now m.world) q
     settle-came (suc k) fs ss m c = by m.fault refl (λ n x. settle-came k (later_fates fs) ss (delivered (this_fate fs) n m) x)
       where
         at-due : ((n : ℕ) → Came ss (delivered (this_fate fs) n m) → Came ss (settle k (later_fates fs) (delivered (this_fate fs) n m))) → (o : Option ℕ) → m.fault ≡ None
@@ -422,9 +422,9 @@ module _ (d : Durable) (wf : WellFormed d) (sixteen : length d.sessions ≡ 16) 
         at-due more (Some n) q = more n (delivered-came (this_fate fs) n ss m c q)
 
         by : (o : Option LeaseFault) → m.fault ≡ o → ((n : ℕ) → Came ss (delivered (this_fate fs) n m) → Came ss (settle k (later_fates fs) (delivered (this_fate fs) n m)))
-            → Came ss (elim o as (λ z. LeaseMoving) [ Some f ↦ m | None ↦ elim (due m.world) as (λ z. LeaseMoving) [ None ↦ m | Some n ↦ settle k (later_fates fs) (delivered (this_fate fs) n m) ] ])
+            → Came ss (elim o as (λ z. LeaseMoving) [ Some f ↦ m | None ↦ elim (due_now m.world) as (λ z. LeaseMoving) [ None ↦ m | Some n ↦ settle k (later_fates fs) (delivered (this_fate fs) n m) ] ])
         by (Some f) q more = c
-        by None q more = at-due more (due m.world) q
+        by None q more = at-due more (due_now m.world) q
 
     message-came : (fate : Fate) (f : ℕ → Event) (o : Option ℕ) (x : LeaseWorld) → B x → ((n : ℕ) → MayStep x (event.World (f n)) × MayAsk P (event.World (f n))) → Came x.world.shown (on_message fate f o x)
     message-came fate f None x b may = fails-came (fault.World world_fault.NoSuchMsg) x b
@@ -489,7 +489,7 @@ module _ (d : Durable) (wf : WellFormed d) (sixteen : length d.sessions ≡ 16) 
 
   -- how a run ends that began behind these lines
   record Ended (ss : List Shown) (r : LeaseRan) : Type 0 where
-    stands : Stands (ss ++ unheld (joined r.pieces)) r.world
+    stands : Stands (ss ++ unheld (joined_lease r.pieces)) r.world
     good : IsUnspent r.ending → (n : ℕ) × Both d wf sixteen unmade (S n) r.world
 
   -- of one piece
@@ -499,7 +499,7 @@ module _ (d : Durable) (wf : WellFormed d) (sixteen : length d.sessions ≡ 16) 
     good = λ u. (n, g u);
   }
 
-  faulted : (n k : ℕ) (f : LeaseFault) → IsUnspent (ending_of n k f) → IsOther (Some f)
+  faulted : (n k : ℕ) (f : LeaseFault) → IsUnspent (lease_ending n k f) → IsOther (Some f)
   faulted n k (fault.World (world_fault.Spent m)) u = u
   faulted n k (fault.World world_fault.NoSuchOp) u = tt
   faulted n k (fault.World world_fault.NoSuchMsg) u = tt
@@ -566,9 +566,9 @@ module _ (d : Durable) (wf : WellFormed d) (sixteen : length d.sessions ≡ 16) 
               reached = (r.stands).reached;
               timely = (r.stands).timely;
               lines = (r.stands).lines
-                  ∙ ap (λ z. z ++ unheld (joined (run_from k (n + 1) ls (rest_fates fs) (forgotten m.world)).pieces)) (c.stands).lines
-                  ∙ append_assoc x.world.shown (unheld m.shown) (unheld (joined (run_from k (n + 1) ls (rest_fates fs) (forgotten m.world)).pieces))
-                  ∙ ap (λ z. x.world.shown ++ z) (sym (unheld-append m.shown (joined (run_from k (n + 1) ls (rest_fates fs) (forgotten m.world)).pieces)));
+                  ∙ ap (λ z. z ++ unheld (joined_lease (run_from k (n + 1) ls (rest_fates fs) (forgotten m.world)).pieces)) (c.stands).lines
+                  ∙ append_assoc x.world.shown (unheld m.shown) (unheld (joined_lease (run_from k (n + 1) ls (rest_fates fs) (forgotten m.world)).pieces))
+                  ∙ ap (λ z. x.world.shown ++ z) (sym (unheld-append m.shown (joined_lease (run_from k (n + 1) ls (rest_fates fs) (forgotten m.world)).pieces)));
               own = (r.stands).own;
             };
             good = r.good;
@@ -581,21 +581,21 @@ module _ (d : Durable) (wf : WellFormed d) (sixteen : length d.sessions ≡ 16) 
 
       by : (o : Option LeaseFault) → m.fault ≡ o → ((y : LeaseWorld) → Both d wf sixteen unmade (S (n + 1)) y → Ended y.world.shown (run_from k (n + 1) ls (rest_fates fs) y))
           → Ended x.world.shown (elim o as (λ y. LeaseRan) [
-            | Some f ↦ ends m.world m.shown (ending_of n col f)
+            | Some f ↦ ends m.world m.shown (lease_ending n col f)
             | None ↦ elim (nat_lt max_pending (world.pending m.world.world)) as (λ y. LeaseRan) [
               | true ↦ ends m.world m.shown (TooMany (world.pending m.world.world))
               | false ↦ piece_before m.shown (run_from k (n + 1) ls (rest_fates fs) (forgotten m.world))
             ]
           ])
-      by (Some f) q more = one-ended (n + 1) x.world.shown m.world m.shown (ending_of n col f) c.stands (λ u. c.good (subst IsOther (sym q) (faulted n col f u)))
+      by (Some f) q more = one-ended (n + 1) x.world.shown m.world m.shown (lease_ending n col f) c.stands (λ u. c.good (subst IsOther (sym q) (faulted n col f u)))
       by None q more = checked q more (nat_lt max_pending (world.pending m.world.world))
 
   -- The close.
-  joined-last : (ps : List (List LeaseShown)) (p : List LeaseShown) → joined (ps ++ p ∷ []) ≡ joined ps ++ p
+  joined-last : (ps : List (List LeaseShown)) (p : List LeaseShown) → joined_lease (ps ++ p ∷ []) ≡ joined_lease ps ++ p
   joined-last [] p = append-nil p
-  joined-last (q ∷ ps) p = ap (λ z. q ++ z) (joined-last ps p) ∙ sym (append_assoc q (joined ps) p)
+  joined-last (q ∷ ps) p = ap (λ z. q ++ z) (joined-last ps p) ∙ sym (append_assoc q (joined_lease ps) p)
 
-  restart-ended : (n : ℕ) (ss : List Shown) (r : LeaseRan) → Stands (ss ++ unheld (joined r.pieces)) r.world → Both d wf sixteen unmade (S n) r.world → Stands (ss ++ unheld (joined (last_restart r).pieces)) (last_restart r).world
+  restart-ended : (n : ℕ) (ss : List Shown) (r : LeaseRan) → Stands (ss ++ unheld (joined_lease r.pieces)) r.world → Both d wf sixteen unmade (S n) r.world → Stands (ss ++ unheld (joined_lease (last_restart r).pieces)) (last_restart r).world
   restart-ended n ss r s b = by m.fault
     where
       m : LeaseMoving
@@ -604,37 +604,37 @@ module _ (d : Durable) (wf : WellFormed d) (sixteen : length d.sessions ≡ 16) 
       c : Came (S n) (its n) r.world.world.shown m
       c = step-came (S n) (its n) runs (event.World of_world.Restart) r.world b tt tt
 
-      by : (o : Option LeaseFault) → let x = elim o as (λ y. LeaseRan) [ Some f ↦ record r { ending = ending_of 0 0 f } | None ↦ record r { world = m.world; pieces = r.pieces ++ m.shown ∷ [] } ] in Stands (ss ++ unheld (joined x.pieces)) x.world
+      by : (o : Option LeaseFault) → let x = elim o as (λ y. LeaseRan) [ Some f ↦ record r { ending = lease_ending 0 0 f } | None ↦ record r { world = m.world; pieces = r.pieces ++ m.shown ∷ [] } ] in Stands (ss ++ unheld (joined_lease x.pieces)) x.world
       by (Some f) = s
       by None = record {
         reached = (c.stands).reached;
         timely = (c.stands).timely;
-        lines = (c.stands).lines ∙ ap (λ z. z ++ unheld m.shown) s.lines ∙ append_assoc ss (unheld (joined r.pieces)) (unheld m.shown)
-            ∙ ap (λ z. ss ++ z) (sym (unheld-append (joined r.pieces) m.shown) ∙ ap unheld (sym (joined-last r.pieces m.shown)));
+        lines = (c.stands).lines ∙ ap (λ z. z ++ unheld m.shown) s.lines ∙ append_assoc ss (unheld (joined_lease r.pieces)) (unheld m.shown)
+            ∙ ap (λ z. ss ++ z) (sym (unheld-append (joined_lease r.pieces) m.shown) ∙ ap unheld (sym (joined-last r.pieces m.shown)));
         own = (c.stands).own;
       }
 
-  close-ended : (ss : List Shown) (r : LeaseRan) → Ended ss r → Stands (ss ++ unheld (joined (close r.ending r).pieces)) (close r.ending r).world
+  close-ended : (ss : List Shown) (r : LeaseRan) → Ended ss r → Stands (ss ++ unheld (joined_lease (close r.ending r).pieces)) (close r.ending r).world
   close-ended ss r k = by r.ending k.good
     where
-      up : (n : ℕ) → Both d wf sixteen unmade (S n) r.world → (z : Bool) → let x = elim z as (λ y. LeaseRan) [ true ↦ last_restart r | false ↦ r ] in Stands (ss ++ unheld (joined x.pieces)) x.world
+      up : (n : ℕ) → Both d wf sixteen unmade (S n) r.world → (z : Bool) → let x = elim z as (λ y. LeaseRan) [ true ↦ last_restart r | false ↦ r ] in Stands (ss ++ unheld (joined_lease x.pieces)) x.world
       up n b true = restart-ended n ss r k.stands b
       up n b false = k.stands
 
-      by : (e : Ending) → (IsUnspent e → (n : ℕ) × Both d wf sixteen unmade (S n) r.world) → Stands (ss ++ unheld (joined (close e r).pieces)) (close e r).world
+      by : (e : Ending) → (IsUnspent e → (n : ℕ) × Both d wf sixteen unmade (S n) r.world) → Stands (ss ++ unheld (joined_lease (close e r).pieces)) (close e r).world
       by (IsSpent n) g = k.stands
       by Done g = let b = g tt in up b.0 b.1 (is_stopped r)
       by (BadLine n j) g = let b = g tt in up b.0 b.1 (is_stopped r)
       by (TooMany n) g = let b = g tt in up b.0 b.1 (is_stopped r)
 
   -- All runs.
-  pub runs-leased : (w : World) → open_world d ≡ Ok w → (l e : ℕ) (fs : List Fates) → Each IsFit script → AreLeased script (images d.volume) d.max_objects (unheld (joined (lease_run l e script fs w).pieces))
+  pub runs-leased : (w : World) → open_world d ≡ Ok w → (l e : ℕ) (fs : List Fates) → Each IsFit script → AreLeased script (images d.volume) d.max_objects (unheld (joined_lease (lease_run l e script fs w).pieces))
   runs-leased w q l e fs fit =
       let first : Both d wf sixteen unmade (S 1) (opened l e w) = record { good = opens-good d wf sixteen unmade (S 1) l e w q; leases = opening-agrees l e w } in
       let s = close-ended w.shown (run_from (bound script) 1 script fs (opened l e w)) (run-ended [] (bound script) 1 script fs (opened l e w) refl refl first fit) in
       let r = lease_run l e script fs w in
       let o = queued-in-order d wf sixteen unmade r.world.world s.reached in
-      told r.world.world (unheld (joined r.pieces)) (s.lines ∙ ap (λ z. z ++ unheld (joined r.pieces)) (no-lines d wf sixteen unmade w q)) s.timely s.own o
+      told r.world.world (unheld (joined_lease r.pieces)) (s.lines ∙ ap (λ z. z ++ unheld (joined_lease r.pieces)) (no-lines d wf sixteen unmade w q)) s.timely s.own o
     where
       told : (v : World) (ss : List Shown) → v.shown ≡ ss → AreTimely [] v.shown → EachLine (IsOf (IsCallIn script)) v.shown → IsInOrder (images d.volume) d.max_objects v → AreLeased script (images d.volume) d.max_objects ss
       told v ss q t own o = record {

@@ -14,7 +14,7 @@ use Rattle.ec_queues.specs.Adds.{MayBe}
 use Rattle.ec_queues.specs.Queued.{MayResume}
 use Rattle.ec_queues.specs.Reached.{QueuedReached}
 use Rattle.ec_lawful.specs.Steps.{MayHappen}
-use Rattle.ec_lease_machine.specs.Leases.{in_world, opened, step}
+use Rattle.ec_lease_machine.specs.Leases.{in_world, opened_leases, step}
 use Rattle.ec_lease_machine.specs.declared.world.LeaseEvent.{LeaseEvent}
 use Rattle.ec_lease_machine.specs.declared.world.LeaseEvent.TheVariants as event
 use Rattle.ec_lease_machine.specs.declared.world.LeaseWorld.{LeaseWorld}
@@ -22,14 +22,14 @@ use Rattle.ec_lease_laws.specs.Agrees.{LeasesAgree}
 use Rattle.ec_printed.specs.Printed.{AreTimely}
 
 -- the lines of a queue's calls differ
-abbrev pub AreApart : List (ℕ × Call) → Type 0
-AreApart [] = ⊤
-AreApart (q ∷ qs) = Each (λ r. (r.0 == q.0) ≡ false) qs × AreApart qs
+abbrev pub CallsAreApart : List (ℕ × Call) → Type 0
+CallsAreApart [] = ⊤
+CallsAreApart (q ∷ qs) = Each (λ r. (r.0 == q.0) ≡ false) qs × CallsAreApart qs
 
 -- each call of these queues may begin
 pub record QueuesAgree (queue : ℕ → List (ℕ × Call)) (w : World) : Type 0 where
   pub may : (c l : ℕ) (cl : Call) → Contains (queue c) (l, cl) → MayResume w c l cl
-  pub apart : (c : ℕ) → AreApart (queue c)
+  pub apart : (c : ℕ) → CallsAreApart (queue c)
 
 abbrev pub queues : LeaseWorld → ℕ → List (ℕ × Call)
 queues x c = at_or [] c x.queued
@@ -46,7 +46,7 @@ MayAsk P _ = ⊤
 
 -- A world with leases over this state: it was opened, and then events happened that may, whatever the disk did in them and whatever clocks showed.
 pub data LeaseReached (d : Durable) : LeaseWorld → Type 0 where
-  opens : (l e : ℕ) (w : World) → open_world d ≡ Ok w → LeaseReached d (opened l e w)
+  opens : (l e : ℕ) (w : World) → open_world d ≡ Ok w → LeaseReached d (opened_leases l e w)
   steps : (x : LeaseWorld) → LeaseReached d x → (fate : Fate) (e : LeaseEvent) → MayStep x e → (step fate e x).fault ≡ None → LeaseReached d (step fate e x).world
   forgets : (x : LeaseWorld) → LeaseReached d x → LeaseReached d (in_world (forget x.world) x)
   unsettles : (x : LeaseWorld) → LeaseReached d x → LeaseReached d (in_world (show_line Unsettled (moving x.world)).world x)

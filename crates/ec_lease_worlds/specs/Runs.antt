@@ -16,8 +16,8 @@ use Rattle.ec_protocol.specs.declared.script.Line.TheVariants as line
 use Rattle.ec_protocol.specs.declared.world.World.{World}
 use Rattle.ec_lawful.specs.Calls.{IsOf}
 use Rattle.ec_lawful.specs.Headline.{FrontsAreLawful, IsGreatest, placed_on}
-use Rattle.ec_lease_machine.specs.Drill.{LeaseRan, LeaseRead, bound, close, joined, reads, run_from}
-use Rattle.ec_lease_machine.specs.Leases.{opened}
+use Rattle.ec_lease_machine.specs.Drill.{LeaseRan, LeaseRead, bound, close, joined_lease, reads, run_from}
+use Rattle.ec_lease_machine.specs.Leases.{opened_leases}
 use Rattle.ec_lease_machine.specs.declared.script.LeaseLine.TheVariants as lines
 use Rattle.ec_lease_machine.specs.declared.world.LeaseShown.{LeaseShown}
 use Rattle.ec_lease_machine.specs.declared.world.LeaseShown.TheVariants.{Line, Held}
@@ -48,10 +48,10 @@ pub record AreLeased (script : List LeaseRead) (v : Images) (most : ℕ) (ss : L
 
 -- a run over a script, and its close
 abbrev pub lease_run : ℕ → ℕ → List LeaseRead → List Fates → World → LeaseRan
-lease_run l e ls fs w = let ran = run_from (bound ls) 1 ls fs (opened l e w) in close ran.ending ran
+lease_run l e ls fs w = let ran = run_from (bound ls) 1 ls fs (opened_leases l e w) in close ran.ending ran
 
 -- So it is of each run over a well-formed state with a slot for each clerk, and without an object of the id 0, whatever the disk does and whatever
 -- clocks show, to its end or to a fault.
 abbrev pub LeaseRunsAreLeased : Type 0
 LeaseRunsAreLeased = (d : Durable) → WellFormed d → length d.sessions ≡ 16 → images d.volume 0 ≡ Gone → (w : World) → open_world d ≡ Ok w → (l e : ℕ) (ls : List LeaseRead) (fs : List Fates) → Each IsFit ls
-    → AreLeased ls (images d.volume) d.max_objects (unheld (joined (lease_run l e ls fs w).pieces))
+    → AreLeased ls (images d.volume) d.max_objects (unheld (joined_lease (lease_run l e ls fs w).pieces))

@@ -10,7 +10,7 @@ use Rattle.ec_history.specs.Placing.{watch, watch_next, late, ops_in, owner, is_
 use Rattle.ec_history.specs.declared.shown.Shown.{Shown}
 use Rattle.ec_history.specs.declared.shown.Shown.TheVariants.{Answered, Ended}
 use Rattle.ec_history.specs.declared.watch.Watch.{Watch}
-use Rattle.ec_legal.specs.Watches.{loss_of, answer_of}
+use Rattle.ec_legal.specs.Watches.{loss_of, answer_behind}
 use Rattle.ec_legal.proofs.Late.{above-at, line-at, from-laws}
 use Rattle.ec_watch.proofs.Watched.{few-at}
 use Rattle.ec_base.specs.Limits.{clerk_count}
@@ -48,9 +48,9 @@ line-loss c w ns ss i s g e v =
     ∙ ap (λ u. ended_gives c u ns (past ++ Ended c ns ∷ []) rest (length past)) v
     ∙ ap (λ x. line_entries past x rest) (sym e)
 
-pub line-answer : (w : Watch) (past : List Shown) (l c : ℕ) (cl : _) (a : _) (op : Option ℕ) (rest : List Shown) (s : Shown) → s ≡ Answered l c cl a op → w ≡ watch c past → answer_of w past s ≡ line_entries past s rest
+pub line-answer : (w : Watch) (past : List Shown) (l c : ℕ) (cl : _) (a : _) (op : Option ℕ) (rest : List Shown) (s : Shown) → s ≡ Answered l c cl a op → w ≡ watch c past → answer_behind w past s ≡ line_entries past s rest
 line-answer w past l c cl a op rest s e v =
-    ap (answer_of w past) e ∙ ap (λ u. answer_of u past (Answered l c cl a op)) v ∙ ap (λ x. line_entries past x rest) (sym e)
+    ap (answer_behind w past) e ∙ ap (λ u. answer_behind u past (Answered l c cl a op)) v ∙ ap (λ x. line_entries past x rest) (sym e)
 
 pub line-other : (past : List Shown) (s : Shown) (rest : List Shown) → ((l c : ℕ) (cl : _) (a : _) (op : Option ℕ) → s ≡ Answered l c cl a op → ⊥) → ((c : ℕ) (ns : List ℕ) → s ≡ Ended c ns → ⊥) → line_entries past s rest ≡ []
 line-other past (Answered l c cl a op) rest f g = absurd (f l c cl a op refl)

@@ -34,5 +34,5 @@ abbrev pub loss_of : ℕ → Watch → List ℕ → List Shown → ℕ → Histo
 loss_of c w ns ss at = late_calls c w ss at ++ (at + 1, entry.Loss c (or_zero (owner w)) (ns ++ ops_in (late_calls c w ss at))) ∷ []
 
 -- what an answer gives behind a watch of its clerk
-abbrev pub answer_of : Watch → List Shown → Shown → History
-answer_of w past s = if is_some w.untold then [] else call_of_start (begun w).starts past s
+abbrev pub answer_behind : Watch → List Shown → Shown → History
+answer_behind w past s = if is_some w.untold then [] else call_of_start (begun w).starts past s

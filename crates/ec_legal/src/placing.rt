@@ -6,7 +6,7 @@ ghost use Rattle.ec_history.specs.declared.shown.Shown.TheVariants.{Ended};
 ghost use Rattle.ec_history.specs.Placing.{watch as watched, begun as start_behind, is_end_of, is_call_of, late, line_entries, ops_in, is_running, owner};
 ghost use Rattle.ec_watch.specs.Watches.{AreWatched};
 ghost use Rattle.ec_lines.specs.Index.{AreBegins, begins as begun_at, begun_in};
-ghost use Rattle.ec_legal.specs.Watches.{IsHeld, call_of_start, own_call, late_calls, loss_of, answer_of};
+ghost use Rattle.ec_legal.specs.Watches.{IsHeld, call_of_start, own_call, late_calls, loss_of, answer_behind};
 
 use ec_base::{ClerkId, Duplicate, List, NoMemory, OpNo};
 use ec_history::{Entry, Shown};
@@ -204,7 +204,7 @@ fn push_answer(
     requires few { length above.now < 2 ^ 31 }
     requires starts { watch.now.starts < 2 ^ 32 }
     requires begun { begun ≡ begun_in (start_behind watch.now).starts above.now line.now }
-    ensures { OnOk result (entries.new.items ≡ entries.old.items ++ answer_of watch.now above.now line.now) }
+    ensures { OnOk result (entries.new.items ≡ entries.old.items ++ answer_behind watch.now above.now line.now) }
 {
     if watching::untold(watch).is_none() {
         push_call(alloc, watching::start(watch), begun, above, line, entries)?;

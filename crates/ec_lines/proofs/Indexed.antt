@@ -9,7 +9,7 @@ use Rattle.ec_history.specs.Placing.{Agrees, Unanswered, EachLine, unwatched, la
 use Rattle.ec_history.specs.declared.shown.Shown.{Shown}
 use Rattle.ec_history.specs.declared.shown.Shown.TheVariants.{Waits, Answered}
 use Rattle.ec_lines.specs.Faults.{HasShape}
-use Rattle.ec_lines.specs.Index.{IsIndex, IsCalled, IsNew, Renews, called_next, start_of, last_entry}
+use Rattle.ec_lines.specs.Index.{IsCallIndex, IsCalled, NumberIsNew, Renews, called_next, start_of, last_entry}
 use Rattle.ec_lines.specs.declared.index.CallLines.{CallLines}
 use Rattle.ec_lines.proofs.Starts.{start-rises, none-later}
 use Rattle.ec_base.proofs.Numbers.{same-self}
@@ -68,11 +68,11 @@ before-get n (s ∷ ss) ts (suc i) d l e = ap (λ xs. cond (is_numbered n s) [] 
 before-on : (n : ℕ) (ss ts : List Shown) (i : ℕ) (s : Shown) → slice_get ss i ≡ Some s → is_numbered n s ≡ true → before_line n (ss ++ ts) ≡ before_line n ss
 before-on n ss ts i s g e = before-get n ss ts i s (slice_get_within ss i s g) (ap (is_numbered n) (get_or_from_slice_get ss i s s g) ∙ e)
 
-before-new : (n : ℕ) (ss : List Shown) (s : Shown) → IsNew n ss → is_numbered n s ≡ true → before_line n (ss ++ s ∷ []) ≡ ss
+before-new : (n : ℕ) (ss : List Shown) (s : Shown) → NumberIsNew n ss → is_numbered n s ≡ true → before_line n (ss ++ s ∷ []) ≡ ss
 before-new n [] s h e = cond-true (is_numbered n s) [] (s ∷ []) e
 before-new n (t ∷ ss) s h e = cond-false (is_numbered n t) [] (t ∷ before_line n (ss ++ s ∷ [])) h.0 ∙ ap (λ xs. t ∷ xs) (before-new n ss s h.1 e)
 
-before-none : (n : ℕ) (ss : List Shown) → IsNew n ss → before_line n ss ≡ ss
+before-none : (n : ℕ) (ss : List Shown) → NumberIsNew n ss → before_line n ss ≡ ss
 before-none n [] h = refl
 before-none n (t ∷ ss) h = cond-false (is_numbered n t) [] (t ∷ before_line n ss) h.0 ∙ ap (λ xs. t ∷ xs) (before-none n ss h.1)
 
@@ -94,10 +94,10 @@ unanswered-off : (n : ℕ) (s : Shown) → is_numbered n s ≡ false → Unanswe
 unanswered-off n (Answered k d dl a op) e = e
 unanswered-off n s e = tt
 
-pub new-agrees : (n c : ℕ) (cl : Call) (ss : List Shown) → IsNew n ss → EachLine (Agrees n c cl) ss
+pub new-agrees : (n c : ℕ) (cl : Call) (ss : List Shown) → NumberIsNew n ss → EachLine (Agrees n c cl) ss
 new-agrees n c cl ss h = each-turn (λ s. is_numbered n s ≡ false) (Agrees n c cl) (agrees-off n c cl) ss h
 
-pub new-unanswered : (n : ℕ) (ss : List Shown) → IsNew n ss → EachLine (Unanswered n) ss
+pub new-unanswered : (n : ℕ) (ss : List Shown) → NumberIsNew n ss → EachLine (Unanswered n) ss
 new-unanswered n ss h = each-turn (λ s. is_numbered n s ≡ false) (Unanswered n) (unanswered-off n) ss h
 
 -- a line of the number has one clerk and one call
@@ -130,7 +130,7 @@ begun-known past n c cl f h g =
     let e = (same-clerk past n c cl f h g).0 in
     subst (λ k. last_place k (start_of k past) unwatched 1 0 (before_line n past) ≡ cond (start_of k past == f.boot) f.begun 0) e (h.begun (start_of h.clerk past) h.later)
 
-pub begun-new : (past : List Shown) (n c : ℕ) → IsNew n past → last_place c (start_of c past) unwatched 1 0 (before_line n past) ≡ last_entry c past
+pub begun-new : (past : List Shown) (n c : ℕ) → NumberIsNew n past → last_place c (start_of c past) unwatched 1 0 (before_line n past) ≡ last_entry c past
 begun-new past n c h = ap (last_place c (start_of c past) unwatched 1 0) (before-none n past h)
 
 -- One more line.
@@ -155,11 +155,11 @@ still-answered past n s true u m = λ e. m (each-front (Unanswered n) past s e)
 still-answered past n s false u m = each-push (Unanswered n) past s m u
 
 -- a line of another number
-elsewhere : (past : List Shown) (n : ℕ) (s : Shown) (o : Option CallLines) → is_numbered n s ≡ false → MatchOption o (IsNew n past) (IsCalled past n) → MatchOption o (IsNew n (past ++ s ∷ [])) (IsCalled (past ++ s ∷ []) n)
+elsewhere : (past : List Shown) (n : ℕ) (s : Shown) (o : Option CallLines) → is_numbered n s ≡ false → MatchOption o (NumberIsNew n past) (IsCalled past n) → MatchOption o (NumberIsNew n (past ++ s ∷ [])) (IsCalled (past ++ s ∷ []) n)
 elsewhere past n s None e m = each-push (λ t. is_numbered n t ≡ false) past s m e
 elsewhere past n s (Some f) e m = called-on past n f s f.is_answered m (agrees-off n m.clerk m.call s e) (still-answered past n s f.is_answered (unanswered-off n s e) m.answered)
 
-pub index-still : (g : ℕ → Option CallLines) (past : List Shown) (s : Shown) → ((n : ℕ) → is_numbered n s ≡ false) → IsIndex g past → IsIndex g (past ++ s ∷ [])
+pub index-still : (g : ℕ → Option CallLines) (past : List Shown) (s : Shown) → ((n : ℕ) → is_numbered n s ≡ false) → IsCallIndex g past → IsCallIndex g (past ++ s ∷ [])
 index-still g past s e h = λ n. elsewhere past n s (g n) (e n) (h n)
 
 -- a line that is neither a call nor an answer
@@ -169,7 +169,7 @@ of-no-call (Answered l c cl a op) f g n = absurd (g l c cl a op refl)
 of-no-call s f g n = refl
 
 -- the first line of a number
-called-first : (past : List Shown) (n c : ℕ) (cl : Call) (s : Shown) (a : Bool) → IsNew n past → is_numbered n s ≡ true → Agrees n c cl s
+called-first : (past : List Shown) (n c : ℕ) (cl : Call) (s : Shown) (a : Bool) → NumberIsNew n past → is_numbered n s ≡ true → Agrees n c cl s
     → MatchBool a (¬ (EachLine (Unanswered n) (past ++ s ∷ []))) (EachLine (Unanswered n) (past ++ s ∷ []))
     → IsCalled (past ++ s ∷ []) n (record { first = length past; boot = start_of c past; begun = last_entry c past; is_answered = a })
 called-first past n c cl s a new own g m = record {
@@ -196,7 +196,7 @@ called-first past n c cl s a new own g m = record {
 -- what is kept of the number, behind its first line or another
 renewed : (past : List Shown) (n c : ℕ) (cl : Call) (s : Shown) (answers : Bool) (o : Option CallLines) → is_numbered n s ≡ true → Agrees n c cl s → EachLine (Agrees n c cl) past
     → ((a : Bool) → MatchBool a (¬ (EachLine (Unanswered n) past)) (EachLine (Unanswered n) past) → MatchBool (cond answers true a) (¬ (EachLine (Unanswered n) (past ++ s ∷ []))) (EachLine (Unanswered n) (past ++ s ∷ [])))
-    → MatchOption o (IsNew n past) (IsCalled past n) → IsCalled (past ++ s ∷ []) n (called_next o (length past) (start_of c past) (last_entry c past) answers)
+    → MatchOption o (NumberIsNew n past) (IsCalled past n) → IsCalled (past ++ s ∷ []) n (called_next o (length past) (start_of c past) (last_entry c past) answers)
 renewed past n c cl s answers None own g each answered m = called-first past n c cl s answers m own g (subst (λ b. MatchBool b (¬ (EachLine (Unanswered n) (past ++ s ∷ []))) (EachLine (Unanswered n) (past ++ s ∷ []))) (or-false answers) (answered false (new-unanswered n past m)))
   where
     or-false : (b : Bool) → cond b true false ≡ b
@@ -208,20 +208,20 @@ renewed past n c cl s answers (Some f) own g each answered m =
 
 index-on : (g h : ℕ → Option CallLines) (past : List Shown) (n c : ℕ) (cl : Call) (s : Shown) (answers : Bool) → ((q : ℕ) → (n == q) ≡ false → is_numbered q s ≡ false) → is_numbered n s ≡ true → Agrees n c cl s → EachLine (Agrees n c cl) past
     → ((a : Bool) → MatchBool a (¬ (EachLine (Unanswered n) past)) (EachLine (Unanswered n) past) → MatchBool (cond answers true a) (¬ (EachLine (Unanswered n) (past ++ s ∷ []))) (EachLine (Unanswered n) (past ++ s ∷ [])))
-    → Renews g h past n c answers → IsIndex g past → IsIndex h (past ++ s ∷ [])
-index-on g h past n c cl s answers others own agrees each answered new i q = subst (λ o. MatchOption o (IsNew q (past ++ s ∷ [])) (IsCalled (past ++ s ∷ []) q)) (sym (new q)) (elim (cases_eq n q) [
-  | inl e ↦ subst (λ o. MatchOption o (IsNew q (past ++ s ∷ [])) (IsCalled (past ++ s ∷ []) q)) (sym (cond-true (n == q) _ (g q) (ap (λ k. n == k) (sym e) ∙ same-self n)))
+    → Renews g h past n c answers → IsCallIndex g past → IsCallIndex h (past ++ s ∷ [])
+index-on g h past n c cl s answers others own agrees each answered new i q = subst (λ o. MatchOption o (NumberIsNew q (past ++ s ∷ [])) (IsCalled (past ++ s ∷ []) q)) (sym (new q)) (elim (cases_eq n q) [
+  | inl e ↦ subst (λ o. MatchOption o (NumberIsNew q (past ++ s ∷ [])) (IsCalled (past ++ s ∷ []) q)) (sym (cond-true (n == q) _ (g q) (ap (λ k. n == k) (sym e) ∙ same-self n)))
       (subst (λ k. IsCalled (past ++ s ∷ []) k (called_next (g n) (length past) (start_of c past) (last_entry c past) answers)) e (renewed past n c cl s answers (g n) own agrees each answered (i n)))
-  | inr f ↦ subst (λ o. MatchOption o (IsNew q (past ++ s ∷ [])) (IsCalled (past ++ s ∷ []) q)) (sym (cond-false (n == q) _ (g q) (ne_eqb n q f))) (elsewhere past q s (g q) (others q (ne_eqb n q f)) (i q))
+  | inr f ↦ subst (λ o. MatchOption o (NumberIsNew q (past ++ s ∷ [])) (IsCalled (past ++ s ∷ []) q)) (sym (cond-false (n == q) _ (g q) (ne_eqb n q f))) (elsewhere past q s (g q) (others q (ne_eqb n q f)) (i q))
 ])
 
-pub index-waits : (g h : ℕ → Option CallLines) (past : List Shown) (n c : ℕ) (cl : Call) (s : Shown) → s ≡ Waits n c cl → HasShape past s → Renews g h past n c false → IsIndex g past → IsIndex h (past ++ s ∷ [])
+pub index-waits : (g h : ℕ → Option CallLines) (past : List Shown) (n c : ℕ) (cl : Call) (s : Shown) → s ≡ Waits n c cl → HasShape past s → Renews g h past n c false → IsCallIndex g past → IsCallIndex h (past ++ s ∷ [])
 index-waits g h past n c cl s e shape new i =
-    subst (λ t. IsIndex h (past ++ t ∷ [])) (sym e)
+    subst (λ t. IsCallIndex h (past ++ t ∷ [])) (sym e)
     (index-on g h past n c cl (Waits n c cl) false (λ q f. f) (same-self n) (on (n == n) _ (refl, refl)) (subst (HasShape past) e shape) (λ a m. still-answered past n (Waits n c cl) a tt m) new i)
 
-pub index-answered : (g h : ℕ → Option CallLines) (past : List Shown) (n c : ℕ) (cl : Call) (a : _) (op : Option ℕ) (s : Shown) → s ≡ Answered n c cl a op → HasShape past s → Renews g h past n c true → IsIndex g past → IsIndex h (past ++ s ∷ [])
+pub index-answered : (g h : ℕ → Option CallLines) (past : List Shown) (n c : ℕ) (cl : Call) (a : _) (op : Option ℕ) (s : Shown) → s ≡ Answered n c cl a op → HasShape past s → Renews g h past n c true → IsCallIndex g past → IsCallIndex h (past ++ s ∷ [])
 index-answered g h past n c cl a op s e shape new i =
-    subst (λ t. IsIndex h (past ++ t ∷ [])) (sym e)
+    subst (λ t. IsCallIndex h (past ++ t ∷ [])) (sym e)
     (index-on g h past n c cl (Answered n c cl a op) true (λ q f. f) (same-self n) (on (n == n) _ (refl, refl)) (subst (HasShape past) e shape).0
     (λ b m each. true≢false (sym (same-self n) ∙ each-last (Unanswered n) past (Answered n c cl a op) each)) new i)

@@ -42,8 +42,8 @@ abbrev pub last_after : ℕ → ℕ → Bool → ℕ → ℕ → ℕ
 last_after before after gives above last = if before == after then (if gives then above + 1 else last) else 0
 
 -- no line has this number
-abbrev pub IsNew : ℕ → List Shown → Type 0
-IsNew n past = EachLine (λ s. is_numbered n s ≡ false) past
+abbrev pub NumberIsNew : ℕ → List Shown → Type 0
+NumberIsNew n past = EachLine (λ s. is_numbered n s ≡ false) past
 
 -- what the lines show of the call of this number
 pub record IsCalled (past : List Shown) (n : ℕ) (f : CallLines) : Type 0 where
@@ -58,11 +58,11 @@ pub record IsCalled (past : List Shown) (n : ℕ) (f : CallLines) : Type 0 where
   pub begun : (b : ℕ) → f.boot ≤ b → last_place clerk b unwatched 1 0 (before_line n past) ≡ (if b == f.boot then f.begun else 0)
 
 -- this is known of the call of this number
-abbrev pub IsKnown : List Shown → ℕ → Option CallLines → Type 0
-IsKnown past n known = MatchOption known (IsNew n past) (IsCalled past n)
+abbrev pub CallIsKnown : List Shown → ℕ → Option CallLines → Type 0
+CallIsKnown past n known = MatchOption known (NumberIsNew n past) (IsCalled past n)
 
-abbrev pub IsIndex : (ℕ → Option CallLines) → List Shown → Type 0
-IsIndex g past = (n : ℕ) → IsKnown past n (g n)
+abbrev pub IsCallIndex : (ℕ → Option CallLines) → List Shown → Type 0
+IsCallIndex g past = (n : ℕ) → CallIsKnown past n (g n)
 
 -- what the index tells of the call of a line
 abbrev pub known_of : (ℕ → Option CallLines) → Shown → Option CallLines
@@ -72,8 +72,8 @@ known_of g _ = None
 
 -- this is known of the call of a line
 abbrev pub IsKnownOf : List Shown → Shown → Option CallLines → Type 0
-IsKnownOf past (Waits l c cl) known = IsKnown past l known
-IsKnownOf past (Answered l c cl a op) known = IsKnown past l known
+IsKnownOf past (Waits l c cl) known = CallIsKnown past l known
+IsKnownOf past (Answered l c cl a op) known = CallIsKnown past l known
 IsKnownOf past _ known = ⊤
 
 -- what is kept of a call behind one more of its lines

@@ -4,7 +4,7 @@ ghost use Rattle.std.specs.List.{list_all};
 ghost use Rattle.ec_volume.specs.Update.{member};
 ghost use Rattle.ec_history.specs.Placing.{Agrees, Unanswered, EachLine, MayFollow, owner, same_numbers, to_lose};
 ghost use Rattle.ec_lines.specs.Faults.{HasShape, BreaksLine};
-ghost use Rattle.ec_lines.specs.Index.{IsKnown, IsKnownOf};
+ghost use Rattle.ec_lines.specs.Index.{CallIsKnown, IsKnownOf};
 ghost use Rattle.ec_lines.specs.Named.{is_told, IsNamed};
 ghost use Rattle.ec_lines.specs.Seen.{Sees};
 
@@ -68,7 +68,7 @@ fn all_agree(
     clerk: ClerkId,
     call: &Call,
 ) -> bool
-    requires { IsKnown above.now number known }
+    requires { CallIsKnown above.now number known }
     ensures { Decides result (EachLine (Agrees number clerk call.now) above.now) }
 {
     match known {
@@ -96,7 +96,7 @@ fn is_call(clerk: ClerkId, call: &Call, of: ClerkId, its: &Call) -> bool
 
 // Whether no line above answers the call of this number.
 fn is_unanswered(above: &[Shown], known: Option<CallLines>, number: u32) -> bool
-    requires { IsKnown above.now number known }
+    requires { CallIsKnown above.now number known }
     ensures { Decides result (EachLine (Unanswered number) above.now) }
 {
     match known {

@@ -6,7 +6,7 @@ ghost use Rattle.ec_plain.specs.declared.call.Call.{Call};
 ghost use Rattle.ec_history.specs.Placing.{EachLine, Agrees, gives_entry, last_place, before_line, unwatched, watch as watched};
 ghost use Rattle.ec_watch.specs.Watches.{AreWatched};
 ghost use Rattle.ec_lines.specs.Faults.{HasShape};
-ghost use Rattle.ec_lines.specs.Index.{IsIndex, IsKnown, IsKnownOf, AreLast, Renews, begins, known_of, start_of, last_after};
+ghost use Rattle.ec_lines.specs.Index.{IsCallIndex, CallIsKnown, IsKnownOf, AreLast, Renews, begins, known_of, start_of, last_after};
 ghost use Rattle.ec_lines.specs.Seen.{Sees};
 
 use crate::index::{self, CallLines, Calls};
@@ -81,7 +81,7 @@ pub fn begins(seen: &Seen, above: &[Shown], known: Option<CallLines>, line: &Sho
 fn begun(seen: &Seen, above: &[Shown], known: Option<CallLines>, number: u32, clerk: ClerkId) -> u32
     requires few { length above.now < 2 ^ 31 }
     requires sees { Sees seen.now above.now }
-    requires known { IsKnown above.now number known }
+    requires known { CallIsKnown above.now number known }
     requires call { (call : Call) × EachLine (Agrees number clerk call) above.now }
     ensures { result ≡ last_place clerk (start_of clerk above.now) unwatched 1 0 (before_line number above.now) }
 {
@@ -152,8 +152,8 @@ fn note_call(
     requires last { AreLast last.now above.now }
     requires known { known ≡ known_of (get nat_eq calls.old) line.now }
     requires shape { HasShape above.now line.now }
-    requires index { IsIndex (get nat_eq calls.old) above.now }
-    ensures { OnOk result (IsIndex (get nat_eq calls.new) (above.now ++ line.now ∷ [])) }
+    requires index { IsCallIndex (get nat_eq calls.old) above.now }
+    ensures { OnOk result (IsCallIndex (get nat_eq calls.new) (above.now ++ line.now ∷ [])) }
 {
     match line {
         Shown::Waits(number, clerk, _) => {

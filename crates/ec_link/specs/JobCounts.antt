@@ -3,9 +3,9 @@ use Rattle.std.specs.Prelude.{ℕ, Option, Some, None}
 use Rattle.ec_link.specs.declared.spawn.Spawned.{Spawned}
 use Rattle.ec_link.specs.declared.spawn.Spawned.TheVariants as spawned
 
-abbrev pub taken : {A : Type 0} → Option A → ℕ
-taken None = 0
-taken (Some job) = 1
+abbrev pub job_taken : {A : Type 0} → Option A → ℕ
+job_taken None = 0
+job_taken (Some job) = 1
 
 -- the jobs that were dropped since they couldn't be started
 abbrev pub refused : Spawned → ℕ

@@ -11,7 +11,7 @@ abbrev pub is_due : MemLink → Bool
 is_due link = list_any (λ n. nat_eq n (one_more link.calls)) link.fails.items
 
 -- nothing has happened at this end, and it holds no bytes
-pub record IsNew (link : MemLink) : Type 0 where
+pub record IsNewLink (link : MemLink) : Type 0 where
   pub faults : faults_in link.happened ≡ 0
   pub closes : closes_in link.happened ≡ 0
   pub given : given_in link.happened ≡ []

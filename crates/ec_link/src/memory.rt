@@ -5,7 +5,7 @@ ghost use Rattle.ec_frame.specs.Frames.{BeginsNone};
 ghost use Rattle.ec_link.specs.declared.link.Sent.TheVariants as sent;
 ghost use Rattle.ec_link.specs.LinkAnswers.{failed, fault_of, close_of, heard, carried, Reads};
 ghost use Rattle.ec_link.specs.HappeningBodies.{More};
-ghost use Rattle.ec_link.specs.Memory.{is_due, IsNew};
+ghost use Rattle.ec_link.specs.Memory.{is_due, IsNewLink};
 
 use crate::around::Around;
 use crate::bell::{Knocker, MemBell};
@@ -140,7 +140,7 @@ pub fn lines(alloc: Global) -> Result<(Line, Line), NoMemory> {
 
 /// Two ends of a new link.
 pub fn mem_pair(alloc: Global) -> Result<(MemLink, MemLink), NoMemory>
-    ensures { IfOk result (λ pair. IsNew pair.0 × IsNew pair.1) }
+    ensures { IfOk result (λ pair. IsNewLink pair.0 × IsNewLink pair.1) }
 {
     let (left, right) = lines(alloc)?;
     Ok((MemLink::on(alloc, left)?, MemLink::on(alloc, right)?))
@@ -149,7 +149,7 @@ pub fn mem_pair(alloc: Global) -> Result<(MemLink, MemLink), NoMemory>
 impl MemLink {
     // The end of this line.
     pub fn on(alloc: Global, line: Line) -> Result<MemLink, NoMemory>
-        ensures { IfOk result (λ link. IsNew link) }
+        ensures { IfOk result (λ link. IsNewLink link) }
     {
         let frames = Frames::new(alloc)?;
         Ok(MemLink {

@@ -3,7 +3,7 @@ ghost use Rattle.std.specs.Prelude.{◌≡◌, ◌+◌, [], IfOk, IfSome, nat_eq
 ghost use Rattle.std.specs.List.{list_any};
 ghost use Rattle.ec_base.specs.Outside.{one_more};
 ghost use Rattle.ec_link.specs.Happenings.{faults_in};
-ghost use Rattle.ec_link.specs.Memory.{IsNew};
+ghost use Rattle.ec_link.specs.Memory.{IsNewLink};
 ghost use Rattle.ec_link.specs.NetAnswers.{faulted};
 
 use crate::around::Around;
@@ -224,7 +224,7 @@ impl MemNet {
 
     // Hands one end of a pair to who listens at the address.
     fn reach<R: Wait>(&self, rt: &R, addr: &str) -> Result<MemLink, NetFault>
-        ensures { IfOk result (λ link. IsNew link) }
+        ensures { IfOk result (λ link. IsNewLink link) }
     {
         let (mine, theirs) = lines(self.alloc)?;
         let link = MemLink::on(self.alloc, mine)?;
@@ -244,7 +244,7 @@ impl MemNet {
 
     // The next line at the door, where one is there.
     fn take<R: Wait>(&self, rt: &R, door: &MemDoor) -> Result<Option<MemLink>, NetFault>
-        ensures { IfOk result (λ found. IfSome found (λ link. IsNew link)) }
+        ensures { IfOk result (λ found. IfSome found (λ link. IsNewLink link)) }
     {
         match door.links.try_recv(rt) {
             Ok(line) => Ok(Some(MemLink::on(self.alloc, line)?)),

@@ -4,7 +4,7 @@ ghost use Rattle.std.specs.List.{All};
 ghost use Rattle.ec_link.specs.declared.spawn.Spawned.TheVariants as spawned;
 ghost use Rattle.ec_link.specs.Happenings.{faults_in};
 ghost use Rattle.ec_link.specs.Spawns.{faults_of};
-ghost use Rattle.ec_link.specs.JobCounts.{taken, refused, IsPromised};
+ghost use Rattle.ec_link.specs.JobCounts.{job_taken, refused, IsPromised};
 
 use crate::around::Around;
 use crate::happenings::Happenings;
@@ -59,7 +59,7 @@ pub trait Jobs {
     /// The next job, or `None` where no further one comes.
     fn next<R: Around>(&mut self, rt: &R) -> Option<Self::Job>
         requires { fits self.old }
-        ensures begun { begun self.new ≡ begun self.old + taken result }
+        ensures begun { begun self.new ≡ begun self.old + job_taken result }
         ensures ended { ended self.new ≡ ended self.old }
         ensures none { IfNone result (over self.new) }
         ensures later { later self.old self.new }

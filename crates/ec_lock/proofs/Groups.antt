@@ -11,7 +11,7 @@ use Rattle.ec_lock.specs.declared.view.Stage.{Stage}
 use Rattle.ec_lock.specs.declared.view.Stage.TheVariants.{Idle, Waiting, Holding}
 use Rattle.ec_lock.specs.declared.view.View.{View}
 use Rattle.ec_lock.specs.Steps.{Member, Distinct, of}
-use Rattle.ec_lock.specs.Rule.{ticket_of, waits, IsOut, Stands, waiting, Tickets, Slot, Knows, Fronts, Numbers, Marks}
+use Rattle.ec_lock.specs.Rule.{ticket_of, waits, IsOut, StandsByStage as Stands, waiting, Tickets, Slot, Knows, Fronts, Numbers, Marks}
 use Rattle.ec_lock.proofs.Seats.{there, elsewhere, each_set, each_more, alone_set, alone_more, alone_joined}
 use Rattle.ec_base.proofs.Lists.{prefix_self, prefix_trans}
 

@@ -15,8 +15,8 @@ use Rattle.ec_lock.specs.declared.traced.Held.{Held}
 use Rattle.ec_lock.specs.declared.view.Stage.TheVariants.{Idle, Waiting, Holding}
 use Rattle.ec_lock.specs.declared.view.View.{View}
 use Rattle.ec_lock.specs.Steps.{Member, Distinct, of}
-use Rattle.ec_lock.specs.Rule.{ticket_of, waits, IsOut, Stands, Tickets, Knows, Marks, Kept}
-use Rattle.ec_lock.specs.Told.{opened, at_stage, holding, with_front, drawn, noted, Got, looked, ended, met, raises, answers, kept, cut, copy, both, spent}
+use Rattle.ec_lock.specs.Rule.{ticket_of, waits, IsOut, StandsByStage as Stands, Tickets, Knows, Marks, Kept}
+use Rattle.ec_lock.specs.Told.{opened_view, at_stage, holding, with_front, drawn, tells_note, Got, looked, tells_end, met, raises, tells_answer, kept, cut, copy, longer_view, spent}
 use Rattle.ec_lock.proofs.Fronts.{prefix_shorter}
 use Rattle.ec_lock.proofs.Seats.{elsewhere}
 use Rattle.ec_lock.proofs.Numbers.{of_between, member_append, member_left, member_right, distinct_append}
@@ -67,7 +67,7 @@ module _ {V S : Type 0} (list : V → List S) (number : S → Option ℕ) (floor
   is_out : (v : View V S) (t : ℕ) → v.stage ≡ Holding t → IsOut v.stage
   is_out v t out = subst IsOut (sym out) tt
 
-  pub opens : (held : Held V) → list first ≡ [] → held.value ≡ first → held.next ≡ 1 → since first first → Rule (opening (0 ∷ 0 ∷ 0 ∷ 0 ∷ []) (Some held ∷ []) (opened first))
+  pub opens : (held : Held V) → list first ≡ [] → held.value ≡ first → held.next ≡ 1 → since first first → Rule (opening (0 ∷ 0 ∷ 0 ∷ 0 ∷ []) (Some held ∷ []) (opened_view first))
   opens held none_yet is one good = record {
     master = [];
     next = 1;
@@ -92,11 +92,11 @@ module _ {V S : Type 0} (list : V → List S) (number : S → Option ℕ) (floor
     numbers = record { distinct = λ j v e. subst (λ (u : View V S). Distinct u.numbers) (only j v e) ((λ m. m), tt); seen = λ j v e. subst (λ (u : View V S). u.next ≤ 1) (only j v e) (le_refl 1) };
     marks = record { low = omega arith; marked = λ j v e. subst (λ (u : View V S). (u.raised ≤ 0) × (u.answered ≤ 0)) (only j v e) (le_refl 0, le_refl 0) };
   } where
-    only : (j : ℕ) (v : View V S) → get_elem? (opened {V = V} {S = S} first ∷ []) j ≡ some v → opened first ≡ v
-    only zero v e = some-injective (opened first) v e
+    only : (j : ℕ) (v : View V S) → get_elem? (opened_view {V = V} {S = S} first ∷ []) j ≡ some v → opened_view first ≡ v
+    only zero v e = some-injective (opened_view first) v e
     only (suc j) v e = absurd (some-ne-none v (sym e))
 
-    alone : (j k : ℕ) (v w : View V S) → get_elem? (opened {V = V} {S = S} first ∷ []) j ≡ some v → get_elem? (opened {V = V} {S = S} first ∷ []) k ≡ some w → j ≡ k
+    alone : (j k : ℕ) (v w : View V S) → get_elem? (opened_view {V = V} {S = S} first ∷ []) j ≡ some v → get_elem? (opened_view {V = V} {S = S} first ∷ []) k ≡ some w → j ≡ k
     alone zero zero v w e f = refl
     alone zero (suc k) v w e f = absurd (some-ne-none w (sym f))
     alone (suc j) k v w e f = absurd (some-ne-none v (sym e))
@@ -183,7 +183,7 @@ module _ {V S : Type 0} (list : V → List S) (number : S → Option ℕ) (floor
       ))
 
   pub notes : (slots id : ℕ) (me : M) (held : Held V) (x t mine : ℕ) → me.1 ≡ (0, Some held) ∷ [] → x ≡ length (list held.value) → me.0.stage ≡ Holding t → IsPrefix me.0.front (list held.value)
-      → ((n : ℕ) → ¬ (n ≡ mine) → of number n me.0.front ≡ of number n (list held.value)) → Member mine me.0.numbers → Allows Rule slots id me 2 (λ _. x) (λ _. noted list (step slots 2 x 0 none) me x)
+      → ((n : ℕ) → ¬ (n ≡ mine) → of number n me.0.front ≡ of number n (list held.value)) → Member mine me.0.numbers → Allows Rule slots id me 2 (λ _. x) (λ _. tells_note list (step slots 2 x 0 none) me x)
   notes slots id me held x t mine has long out grown own member s r _ at _ =
       let v : View V S = me.0 in
       let w : View V S = with_front v (list held.value) in
@@ -212,7 +212,7 @@ module _ {V S : Type 0} (list : V → List S) (number : S → Option ℕ) (floor
       )
 
   pub ends : (slots id : ℕ) (me : M) (held : Held V) (t : ℕ) → me.1 ≡ (0, Some held) ∷ [] → me.0.stage ≡ Holding t → me.0.front ≡ list held.value → me.0.next ≡ held.next → since first held.value
-      → Allows Rule slots id me 1 (λ n. (n + 1) % 2 ^ 64) (ended (step slots 1 1 0 none) me)
+      → Allows Rule slots id me 1 (λ n. (n + 1) % 2 ^ 64) (tells_end (step slots 1 1 0 none) me)
   ends slots id me held t has out whole same good s r _ at _ =
       let v : View V S = me.0 in
       let w : View V S = at_stage v Idle in
@@ -300,9 +300,9 @@ module _ {V S : Type 0} (list : V → List S) (number : S → Option ℕ) (floor
     λ n m. (member_right n v.numbers w.numbers m, (kw.2 n m).1),
   )
 
-  pub joins : (id : ℕ) (v : View V S) (other : ℕ) (w : View V S) → v.stage ≡ Idle → w.stage ≡ Idle → Joins Rule id v other w (both v w) spent
+  pub joins : (id : ℕ) (v : View V S) (other : ℕ) (w : View V S) → v.stage ≡ Idle → w.stage ≡ Idle → Joins Rule id v other w (longer_view v w) spent
   joins id v other w idle idle' s r at apart there_too =
-      let b : View V S = both v w in
+      let b : View V S = longer_view v w in
       let vs : List (View V S) = set s.views id b in
       let at' : get_elem? s.views other ≡ some w = sym (elsewhere s.views id other b apart) ∙ there_too in
       let kv = r.fronts.knows id v at in
@@ -354,7 +354,7 @@ module _ {V S : Type 0} (list : V → List S) (number : S → Option ℕ) (floor
         (refl, prefix_shorter v.other v.front r.master k.1 k.0 le, (λ n m. let o = k.3 n m in (k.2 n o.0).1 ∙ sym o.1), r.numbers.distinct id v at),
       )
 
-  pub answers_mark : (slots id : ℕ) (me : M) → Allows Rule slots id me 3 (λ n. n) (answers (step slots 3 0 0 none) me)
+  pub answers_mark : (slots id : ℕ) (me : M) → Allows Rule slots id me 3 (λ n. n) (tells_answer (step slots 3 0 0 none) me)
   answers_mark slots id me s r _ at _ =
       let v : View V S = me.0 in
       let w : View V S = record v { answered = word s 3 } in

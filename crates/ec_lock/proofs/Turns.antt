@@ -8,7 +8,7 @@ use Rattle.ec_lock.specs.declared.traced.Held.{Held}
 use Rattle.ec_lock.specs.declared.view.Stage.TheVariants.{Idle, Waiting, Holding}
 use Rattle.ec_lock.specs.declared.view.View.{View}
 use Rattle.ec_lock.specs.Steps.{Member, of}
-use Rattle.ec_lock.specs.Told.{at_stage, holding, with_front, noted, Got, looked, both}
+use Rattle.ec_lock.specs.Told.{at_stage, holding, with_front, tells_note, Got, looked, longer_view}
 use Rattle.ec_base.proofs.Options.{some_same}
 
 abbrev M : Type 0 → Type 0 → Type 0
@@ -26,7 +26,7 @@ found_there {A} c a b e f =
     ap (λ p. p.1) pair
 
 module _ {V S : Type 0} where
-  pub both_le : (v w : View V S) → length (both v w).other ≤ length (both v w).front
+  pub both_le : (v w : View V S) → length (longer_view v w).other ≤ length (longer_view v w).front
   both_le v w = go (nat_lt (length v.front) (length w.front)) refl where
     go : (b : Bool) → nat_lt (length v.front) (length w.front) ≡ b → length (cond b v.front w.front) ≤ length (cond b w.front v.front)
     go true e = grind (arith, nat_tests)
@@ -52,7 +52,7 @@ module _ {V S : Type 0} where
         subst (λ x. k < x.next) same below
 
   -- the value lies in the slot again, and its list is noted
-  pub put_back : (list : V → List S) (st : Step (Option (Held V))) (m0 m1 m2 : M V S) (held : Held V) (x : ℕ) → m0.1 ≡ (0, None) ∷ [] → m1 ≡ (m0.0, (0, Some held) ∷ rest m0.1) → noted list st m1 x m2
+  pub put_back : (list : V → List S) (st : Step (Option (Held V))) (m0 m1 m2 : M V S) (held : Held V) (x : ℕ) → m0.1 ≡ (0, None) ∷ [] → m1 ≡ (m0.0, (0, Some held) ∷ rest m0.1) → tells_note list st m1 x m2
       → m2 ≡ (with_front m0.0 (list held.value), (0, Some held) ∷ [])
   put_back list st m0 m1 m2 held x out e told =
       let lies_there : m1.1 ≡ (0, Some held) ∷ [] = ap (λ m. m.1) e ∙ ap (λ c. (0, Some held) ∷ rest c) out in

@@ -26,10 +26,10 @@ IsOut Idle = ⊥
 IsOut (Waiting t) = ⊥
 IsOut (Holding t) = Unit {0}
 
-abbrev pub Stands : ℕ → ℕ → Stage → Type 0
-Stands ticket serving Idle = Unit {0}
-Stands ticket serving (Waiting t) = (serving ≤ t) × (t < ticket)
-Stands ticket serving (Holding t) = (t ≡ serving) × (t < ticket)
+abbrev pub StandsByStage : ℕ → ℕ → Stage → Type 0
+StandsByStage ticket serving Idle = Unit {0}
+StandsByStage ticket serving (Waiting t) = (serving ≤ t) × (t < ticket)
+StandsByStage ticket serving (Holding t) = (t ≡ serving) × (t < ticket)
 
 module _ {V S : Type 0} where
   abbrev pub waiting : List (View V S) → ℕ
@@ -40,7 +40,7 @@ module _ {V S : Type 0} where
   pub record Tickets (ticket serving : ℕ) (views : List (View V S)) : Type 0 where
     pub few : ticket ≤ last_counter
     pub counted : serving + waiting views ≡ ticket
-    pub stands : (j : ℕ) (v : View V S) → get_elem? views j ≡ some v → Stands ticket serving v.stage
+    pub stands : (j : ℕ) (v : View V S) → get_elem? views j ≡ some v → StandsByStage ticket serving v.stage
     pub apart : (t j k : ℕ) (v w : View V S) → get_elem? views j ≡ some v → get_elem? views k ≡ some w → ticket_of v.stage ≡ Some t → ticket_of w.stage ≡ Some t → j ≡ k
 
   module _ (list : V → List S) (since : V → V → Type 0) (first : V) where

@@ -16,8 +16,8 @@ About V = Step (Option (Held V))
 
 module _ {V S : Type 0} where
   -- the view at the start
-  abbrev pub opened : V → View V S
-  opened first = record { first = Some first; front = []; stage = Idle; next = 1; numbers = 0 ∷ []; other = []; others = []; raised = 0; answered = 0 }
+  abbrev pub opened_view : V → View V S
+  opened_view first = record { first = Some first; front = []; stage = Idle; next = 1; numbers = 0 ∷ []; other = []; others = []; raised = 0; answered = 0 }
 
   abbrev pub at_stage : View V S → Stage → View V S
   at_stage v stage = record v { stage = stage }
@@ -32,8 +32,8 @@ module _ {V S : Type 0} where
   drawn st m found n = n ≡ (cond (found == st.first) (at_stage m.0 (Waiting found)) m.0, m.1)
 
   module _ (list : V → List S) where
-    abbrev pub noted : About V → Seat V S → ℕ → Seat V S → Type 0
-    noted st m stored n = (held : Held V) → m.1 ≡ (0, Some held) ∷ [] → n ≡ (with_front m.0 (list held.value), m.1)
+    abbrev pub tells_note : About V → Seat V S → ℕ → Seat V S → Type 0
+    tells_note st m stored n = (held : Held V) → m.1 ≡ (0, Some held) ∷ [] → n ≡ (with_front m.0 (list held.value), m.1)
 
     module _ (number : S → Option ℕ) (floor : List S → ℕ) (since : V → V → Type 0) where
       abbrev pub Got : ℕ → Seat V S → Seat V S → Type 0
@@ -49,8 +49,8 @@ module _ {V S : Type 0} where
       abbrev pub looked : About V → Seat V S → ℕ → Seat V S → Type 0
       looked st m found n = (t : ℕ) → m.0.stage ≡ Waiting t → MatchBool (found == t) (Got t m n) (n ≡ m)
 
-  abbrev pub ended : About V → Seat V S → ℕ → Seat V S → Type 0
-  ended st m found n = n ≡ (at_stage m.0 Idle, [])
+  abbrev pub tells_end : About V → Seat V S → ℕ → Seat V S → Type 0
+  tells_end st m found n = n ≡ (at_stage m.0 Idle, [])
 
   abbrev pub met : (S → Option ℕ) → About V → Seat V S → ℕ → Seat V S → Type 0
   met number st m found n = (n ≡ (record (m.0) { other = []; others = [] }, m.1)) × IsPrefix m.0.other m.0.front
@@ -59,8 +59,8 @@ module _ {V S : Type 0} where
   abbrev pub raises : About V → Seat V S → ℕ → Seat V S → Type 0
   raises st m found n = n ≡ (record (m.0) { raised = max m.0.raised st.first }, m.1)
 
-  abbrev pub answers : About V → Seat V S → ℕ → Seat V S → Type 0
-  answers st m found n = (n ≡ (record (m.0) { answered = found }, m.1)) × (m.0.raised ≤ found) × (m.0.answered ≤ found)
+  abbrev pub tells_answer : About V → Seat V S → ℕ → Seat V S → Type 0
+  tells_answer st m found n = (n ≡ (record (m.0) { answered = found }, m.1)) × (m.0.raised ≤ found) × (m.0.answered ≤ found)
 
   -- the next number is drawn for a new pass with the same front
   abbrev pub kept : View V S → View V S
@@ -74,8 +74,8 @@ module _ {V S : Type 0} where
   copy v = record v { stage = Idle; numbers = []; other = []; others = [] }
 
   -- the longer front stays, the shorter one is kept beside it until the next look
-  abbrev pub both : View V S → View V S → View V S
-  both v w = let shorter = nat_lt (length v.front) (length w.front) in record v {
+  abbrev pub longer_view : View V S → View V S → View V S
+  longer_view v w = let shorter = nat_lt (length v.front) (length w.front) in record v {
     front = cond shorter w.front v.front;
     other = cond shorter v.front w.front;
     others = cond shorter v.numbers w.numbers;

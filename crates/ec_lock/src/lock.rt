@@ -3,7 +3,7 @@ ghost use Rattle.std.specs.Prelude.{◌≡◌, ℕ, ◌<◌, ◌≤◌, [], ◌�
 ghost use mathlib.Core.List.{IsPrefix};
 ghost use Rattle.ec_lock.specs.declared.view.Stage.TheVariants.{Waiting};
 ghost use Rattle.ec_lock.specs.Steps.{Member, of};
-ghost use Rattle.ec_lock.specs.Told.{opened, at_stage, Got};
+ghost use Rattle.ec_lock.specs.Told.{opened_view, at_stage, Got};
 ghost use Rattle.ec_lock.specs.PassViews.{first, view, front, numbers, next_number, IsPassOf, HasTurn, Same, Marked};
 
 use crate::plays::{Draw, Look, Next, Noting};
@@ -43,7 +43,7 @@ impl<V: Traced> TracedLock<V> {
         requires begins { V.since value value }
         ensures lock { IfOk result (λ made. first made.0 ≡ value) }
         ensures pass { IfOk result (λ made. IsPassOf made.0 made.1) }
-        ensures view { IfOk result (λ made. (view made.1 ≡ opened value) × (made.1.number ≡ 0)) }
+        ensures view { IfOk result (λ made. (view made.1 ≡ opened_view value) × (made.1.number ≡ 0)) }
         ensures err { IfErr result (λ back. back ≡ value) }
     {
         let Ok(mut slots) = Vec::with_capacity(alloc, 1) else {

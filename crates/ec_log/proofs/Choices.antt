@@ -30,7 +30,7 @@ choice_pick l (x ∷ xs) = go (first_of (has_one_of (keys (x ∷ xs))) l.batches
         by true = refl
         by false = front
 
-    go : (o : Option (ℕ × List ℕ)) → choice.unless_behind (keys (x ∷ xs)) l.next_batch l.batches (choice.number_of o)
+    go : (o : Option (ℕ × List ℕ)) → choice.unless_behind (keys (x ∷ xs)) l.next_batch l.batches (choice.batch_number o)
         ≡ elim o as (λ z. Pick) [ Some b ↦ Behind b.0 | None ↦ elim (in_window l l.batches) as (λ z. Pick) [ true ↦ Batch l.next_batch (keys (take max_batch_ops (x ∷ xs))) | false ↦ Window (least l.batches) ] ]
     go (Some b) = refl
     go None = unless_full l.batches

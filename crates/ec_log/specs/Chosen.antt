@@ -26,9 +26,9 @@ abbrev pub lost_in : Window → Table (List ℕ) → Issued → Issued
 lost_in w bs ops = filter (λ op. not (list_any (λ b. has w b.0 && member op.0 b.1) bs)) ops
 
 -- the batch before whose answer no new one begins
-abbrev pub number_of : Option (ℕ × List ℕ) → Option ℕ
-number_of None = None
-number_of (Some b) = Some b.0
+abbrev pub batch_number : Option (ℕ × List ℕ) → Option ℕ
+batch_number None = None
+batch_number (Some b) = Some b.0
 
 -- the least batch under way, where the next one would be a whole window above it
 abbrev pub full_from : ℕ → Table (List ℕ) → Option ℕ
@@ -50,7 +50,7 @@ chosen (n ∷ ns) next bs behind = unless_behind (n ∷ ns) next bs behind
 
 abbrev pub choice : List ℕ → ℕ → Table (List ℕ) → Pick
 choice [] next bs = pick_of.Settled
-choice (n ∷ ns) next bs = unless_behind (n ∷ ns) next bs (number_of (first_of (has_one_of (n ∷ ns)) bs))
+choice (n ∷ ns) next bs = unless_behind (n ∷ ns) next bs (batch_number (first_of (has_one_of (n ∷ ns)) bs))
 
 -- the same of the operations of each batch
 abbrev pub all_rise : Table (List ℕ) → Bool

@@ -48,7 +48,7 @@ pub fn first_met(
     asked: &Asked,
     undurable: &Order,
 ) -> Option<u64>
-    ensures { result ≡ chosen.number_of (first (chosen.is_met ops.now asked.now undurable.now) batches.now) }
+    ensures { result ≡ chosen.batch_number (first (chosen.is_met ops.now asked.now undurable.now) batches.now) }
 {
     match batches {
         [] => None,

@@ -16,7 +16,7 @@ use Rattle.ec_history.specs.declared.entry.Entry.{Entry}
 use Rattle.ec_history.specs.declared.entry.Entry.TheVariants as entry
 use Rattle.ec_history.specs.declared.shown.Shown.{Shown}
 use Rattle.ec_history.specs.declared.shown.Shown.TheVariants as show
-use Rattle.ec_machine_laws.specs.Answers.{Plainly, after_call, answers_in, answers_to, none_yet, number_of, outcome_on}
+use Rattle.ec_machine_laws.specs.Answers.{Plainly, after_call, answers_in, answers_to, none_yet, operation_number, outcome_on}
 use Rattle.ec_machine_laws.specs.PlainLines.{IsPlain, asked_in, ids_from}
 use Rattle.ec_machine_laws.proofs.Watching.{IsOne, stays-one}
 use Rattle.ec_history.proofs.HistoryLemmas.{updates-append}
@@ -82,7 +82,7 @@ module _ (base : Base) (most : ℕ) where
     entries-are op rest = ap (λ (o : Option (List ℕ)). cond (is_some o) [] (call_entry past (said op))) (f.one c).untold
 
     record Steps (op : Option ℕ) : Type 0 where
-      said-is : said op ≡ show.Answered l c cl (answer.Reply o.reply) (number_of s c o.update)
+      said-is : said op ≡ show.Answered l c cl (answer.Reply o.reply) (operation_number s c o.update)
       next : Sofar (past ++ said op ∷ []) (h ++ entry-of op ∷ []) (after_call s c o.update)
 
     still-one : (op : Option ℕ) (d : ℕ) → IsOne (watch d (past ++ said op ∷ []))
@@ -95,7 +95,7 @@ module _ (base : Base) (most : ℕ) where
 
     replies : IsCall base most h c b p cl (answer.Reply r) None → o.update ≡ None → Steps None
     replies legal e = record {
-      said-is = (λ z. show.Answered l c cl (answer.Reply ((legal.reply.0 ∙ ap (λ (o : Outcome). o.reply) outcome-is) z)) (sym (ap (number_of s c) e) z));
+      said-is = (λ z. show.Answered l c cl (answer.Reply ((legal.reply.0 ∙ ap (λ (o : Outcome). o.reply) outcome-is) z)) (sym (ap (operation_number s c) e) z));
       next = subst (Sofar (past ++ said None ∷ []) (h ++ entry-of None ∷ [])) (sym (ap (after_call s c) e)) (record {
         updated = ap updates (kept-more base [] h (entry-of None)) ∙ updates-append (kept base h) [] ∙ no-more (updates (kept base h)) ∙ f.updated;
         issued = λ d. omega (arith, filter-more (is_op_of d 1) h (entry-of None), none-counts (same_start d 1 c b), f.issued d);
@@ -123,7 +123,7 @@ module _ (base : Base) (most : ℕ) where
 
     issues : (n : ℕ) (u : Update) → IsCall base most h c b p cl (answer.Reply r) (Some n) → o.update ≡ Some u → Steps (Some n)
     issues n u legal e = record {
-      said-is = (λ z. show.Answered l c cl (answer.Reply ((legal.reply.0 ∙ ap (λ (o : Outcome). o.reply) outcome-is) z)) ((ap Some number ∙ sym (ap (number_of s c) e)) z));
+      said-is = (λ z. show.Answered l c cl (answer.Reply ((legal.reply.0 ∙ ap (λ (o : Outcome). o.reply) outcome-is) z)) ((ap Some number ∙ sym (ap (operation_number s c) e)) z));
       next = subst (Sofar (past ++ said (Some n) ∷ []) (h ++ entry-of (Some n) ∷ [])) (sym (ap (after_call s c) e)) (record {
         updated = ap updates (kept-more base [] h (entry-of (Some n))) ∙ updates-append (kept base h) (issued_by base (kept base h) (entry-of (Some n))) ∙ (λ z. f.updated z ++ issued-op n u e z);
         issued = λ d. omega (arith, filter-more (is_op_of d 1) h (entry-of (Some n)), counts n d, f.issued d, counted d u);

@@ -8,7 +8,7 @@ use Rattle.ec_sessions.specs.WindowLaws.{new_has}
 use Rattle.ec_sessions.specs.declared.window.Window.{Window}
 use Rattle.ec_log.specs.Log.{empty}
 use Rattle.ec_log.specs.declared.state.LogState.{LogState}
-use Rattle.ec_machine_laws.specs.Logs.{Agrees, TellsDurable}
+use Rattle.ec_machine_laws.specs.Logs.{WindowAgrees, TellsDurable}
 use Rattle.ec_machine_laws.specs.Picks.{IsRest}
 use Rattle.ec_machine_laws.proofs.Batches.{none-some}
 use Rattle.ec_base.proofs.Bools.{is-true}
@@ -16,7 +16,7 @@ use Rattle.ec_base.proofs.Bools.{is-true}
 pub empty-rest : (done : ℕ → Bool) → IsRest [] done empty
 empty-rest done = record { sorted = tt; rest = refl; closed = tt }
 
-pub new-agrees : (l : LogState) → l.batches ≡ [] → l.next_batch ≡ 1 → Agrees new_window l
+pub new-agrees : (l : LogState) → l.batches ≡ [] → l.next_batch ≡ 1 → WindowAgrees new_window l
 new-agrees l e n = record {
   answered = λ b one lt none. absurd (omega (arith, one, lt, n));
   sent = λ b h. elim (cases_lt b 1) [

@@ -10,7 +10,7 @@ use Rattle.ec_base.specs.declared.ids.Hold.{Hold}
 use Rattle.ec_base.specs.declared.ids.Hold.TheVariants.{Write}
 use Rattle.ec_volume.specs.Update.{member}
 use Rattle.ec_tokens.specs.Laws.{holder_has, sound_granted, token-granted}
-use Rattle.ec_tokens.specs.Tokens.{Row, Tokens, Holder, row_of, row, token, holders, first, is_conflict, is_clear, granted, lowered_in, with_row, lowered}
+use Rattle.ec_tokens.specs.Tokens.{Row, Tokens, Holder, row_of, row, token, holders, first_holder, is_conflict, is_clear, granted, lowered_in, with_row, lowered}
 use Rattle.ec_tokens.specs.SoundTokens.{IsSound}
 use Rattle.ec_tokens.specs.declared.token.Token.{Token}
 use Rattle.ec_protocol.specs.Server.{with_ids}
@@ -44,7 +44,7 @@ none-pass p [] f = refl
 none-pass p (g ∷ gs) f = ap (λ b. cond b (g ∷ filter p gs) (filter p gs)) (f g (0, omega arith, refl)) ∙ none-pass p gs (λ h c. f h (suc c.0, omega (arith, c.1), c.2))
 
 own-clear : (ts : Tokens) (s x : ℕ) → IsSound ts → ((t : ℕ) → (t == s) ≡ false → token ts t x ≡ None) → is_clear ts s x Write ≡ true
-own-clear ts s x sound own = ap (λ gs. is_none (first gs)) (none-pass (is_conflict s Write) (holders ts x) (λ g c. go g c (g.0 == s) refl))
+own-clear ts s x sound own = ap (λ gs. is_none (first_holder gs)) (none-pass (is_conflict s Write) (holders ts x) (λ g c. go g c (g.0 == s) refl))
   where
     go : (g : Holder) → Contains (holders ts x) g → (b : Bool) → (g.0 == s) ≡ b → is_conflict s Write g ≡ false
     go g c true e = ap (λ b. not b && clash g.1 Write) e

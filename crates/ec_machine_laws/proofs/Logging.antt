@@ -20,7 +20,7 @@ use Rattle.ec_log.specs.declared.state.Pick.{Pick}
 use Rattle.ec_log.specs.declared.state.Pick.TheVariants.{Batch, Settled, Behind, Window as AtWindow}
 use Rattle.ec_log.specs.declared.state.LogState.{LogState}
 use Rattle.ec_machine_laws.specs.Picks.{IsPicked, Says}
-use Rattle.ec_machine_laws.specs.Logs.{IsUnderWay, IsLog, Agrees}
+use Rattle.ec_machine_laws.specs.Logs.{IsUnderWay, IsLog, WindowAgrees}
 use Rattle.ec_machine_laws.proofs.Holding.{holds-front, holds-kept, sorted-part}
 use Rattle.ec_machine_laws.proofs.Picking.{pick-says}
 use Rattle.ec_machine_laws.proofs.Batches.{none-some, at-put_same, at-put_other, at-without_same, at-without_other, least-found, all-found}
@@ -168,7 +168,7 @@ module _ (l : LogState) (i : IsLog l) where
       ];
     }
 
-    pub picked-agrees : (w : Window) → Agrees w l → Agrees w picked
+    pub picked-agrees : (w : Window) → WindowAgrees w l → WindowAgrees w picked
     picked-agrees w g = record {
       answered = λ c one lt none. elim (cases_eq c b) [
         | inl e ↦ none-some ns (sym none ∙ ap (λ k. at k (put b ns l.batches)) e ∙ at-put_same b ns l.batches)
@@ -194,10 +194,10 @@ module _ (l : LogState) (i : IsLog l) where
       go (Behind b) q = i
       go (AtWindow b) q = i
 
-  pub pick-agrees : (a : Asked) (w : Window) → Agrees w l → Agrees w (after_pick (pick a l) l)
+  pub pick-agrees : (a : Asked) (w : Window) → WindowAgrees w l → WindowAgrees w (after_pick (pick a l) l)
   pick-agrees a w g = go (pick a l) (pick-says a l i.sorted)
     where
-      go : (p : Pick) → Says a l p → Agrees w (after_pick p l)
+      go : (p : Pick) → Says a l p → WindowAgrees w (after_pick p l)
       go (Batch b ns) q = picked-agrees a b ns q w g
       go Settled q = g
       go (Behind b) q = g
@@ -248,7 +248,7 @@ module _ (l : LogState) (i : IsLog l) where
       closed = λ c ms w m n x y hm hn. i.closed c ms (was-kept c ms w).1 m n x y (holds-front (λ op. not (member op.0 (ops_in b l))) l.undurable m x hm) (holds-front (λ op. not (member op.0 (ops_in b l))) l.undurable n y hn);
     }
 
-    pub kept-agrees : (w : Window) → Agrees w l → T (has w b) → Agrees w (kept b l)
+    pub kept-agrees : (w : Window) → WindowAgrees w l → T (has w b) → WindowAgrees w (kept b l)
     kept-agrees w g h = record {
       answered = λ c one lt none. elim (cases_eq b c) [
         | inl e ↦ subst (λ k. T (has w k)) e h
@@ -297,7 +297,7 @@ module _ (l : LogState) (i : IsLog l) where
           self h = absurd (omega (arith, h))
 
   -- The server's window reaches each batch under way.
-  pub within-window : (w : Window) → Agrees w l → has w (w.low + 1) ≡ false → (b : ℕ) (ns : List ℕ) → IsUnderWay l b ns → b ≤ w.low + 8
+  pub within-window : (w : Window) → WindowAgrees w l → has w (w.low + 1) ≡ false → (b : ℕ) (ns : List ℕ) → IsUnderWay l b ns → b ≤ w.low + 8
   within-window w g n b ns u =
       let f = least-found b ns l.batches i.batches u in
       let next : l.next_batch ≤ f.key + 8 = i.near f.key f.value f.here in
@@ -321,7 +321,7 @@ module _ (l : LogState) (i : IsLog l) where
               map-head (z ∷ zs) = Some z.0
 
 -- A batch that was sent is marked.
-pub mark-agrees : (w : Window) (l : LogState) (b : ℕ) → Agrees w l → b < l.next_batch → Agrees (after_mark w b) l
+pub mark-agrees : (w : Window) (l : LogState) (b : ℕ) → WindowAgrees w l → b < l.next_batch → WindowAgrees (after_mark w b) l
 mark-agrees w l b g lt = record {
   answered = λ c one below none. holds (kept_over w (b ∷ []) c (is-true _ (g.answered c one below none)));
   sent = λ c h. elim (cases_eq c b) [ inl e ↦ omega (arith, e, lt) | inr n ↦ g.sent c (subst T (has-after_other w b c n) h) ];

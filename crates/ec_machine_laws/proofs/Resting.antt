@@ -20,7 +20,7 @@ use Rattle.ec_log.specs.declared.state.Pick.{Pick}
 use Rattle.ec_log.specs.declared.state.Pick.TheVariants.{Batch, Settled, Behind, Window as AtWindow}
 use Rattle.ec_log.specs.declared.state.LogState.{LogState}
 use Rattle.ec_machine_laws.specs.Picks.{IsPicked, Says, IsRest, HoldNeeds}
-use Rattle.ec_machine_laws.specs.Logs.{IsUnderWay, IsLog, Agrees, TellsDurable}
+use Rattle.ec_machine_laws.specs.Logs.{IsUnderWay, IsLog, WindowAgrees, TellsDurable}
 use Rattle.ec_machine_laws.proofs.Holding.{holds-front, holds-passed}
 use Rattle.ec_machine_laws.proofs.Picking.{pick-says, needs-all}
 use Rattle.ec_machine_laws.proofs.Batches.{at-put_other, at-without_other, all-found}
@@ -110,7 +110,7 @@ module _ (w : Window) (l : LogState) (durable : ℕ → Bool) (t : TellsDurable 
     ];
   }
 
-  pub pick-tells : IsLog l → Agrees w l → (a : Asked) → TellsDurable w (after_pick (pick a l) l) durable
+  pub pick-tells : IsLog l → WindowAgrees w l → (a : Asked) → TellsDurable w (after_pick (pick a l) l) durable
   pick-tells i g a = go (pick a l) (pick-says a l i.sorted)
     where
       new : (b : ℕ) (ns : List ℕ) → IsPicked a l b ns → (n : ℕ) → T (member n ns) → durable n ≡ has w b

@@ -41,24 +41,24 @@ abbrev pub outcome_on : Images → Plainly → Call → ℕ → Outcome
 outcome_on v s cl id = plain (after v s.updates) cl id
 
 -- the number of the clerk's operation, where the call has an update
-abbrev pub number_of : Plainly → ℕ → Option Update → Option ℕ
-number_of s c None = None
-number_of s c (Some u) = Some (s.issued c + 1)
+abbrev pub operation_number : Plainly → ℕ → Option Update → Option ℕ
+operation_number s c None = None
+operation_number s c (Some u) = Some (s.issued c + 1)
 
 abbrev pub after_call : Plainly → ℕ → Option Update → Plainly
 after_call s c None = s
 after_call s c (Some u) = record { updates = s.updates ++ u ∷ []; issued = λ d. elim (d == c) [ true ↦ s.issued d + 1 | false ↦ s.issued d ] }
 
-abbrev pub first_of : List ℕ → ℕ
-first_of [] = 0
-first_of (id ∷ ids) = id
+abbrev pub first_number : List ℕ → ℕ
+first_number [] = 0
+first_number (id ∷ ids) = id
 
 -- each call is answered by what it comes to behind those before it; a new object has the next one of these ids
 abbrev pub answers_to : Images → Plainly → List ℕ → List Asking → List Shown
 answers_to v s ids [] = []
 answers_to v s ids (q ∷ qs) =
-    let o = outcome_on v s q.2 (first_of ids) in
-    show.Answered q.0 q.1 q.2 (answer.Reply o.reply) (number_of s q.1 o.update) ∷ answers_to v (after_call s q.1 o.update) (drop 1 ids) qs
+    let o = outcome_on v s q.2 (first_number ids) in
+    show.Answered q.0 q.1 q.2 (answer.Reply o.reply) (operation_number s q.1 o.update) ∷ answers_to v (after_call s q.1 o.update) (drop 1 ids) qs
 
 -- the plain answers to all calls of a script
 abbrev pub plain_answers : Images → List ℕ → List Line → List Shown

@@ -12,7 +12,7 @@ ghost use Rattle.ec_log.specs.declared.state.Pick.TheVariants.{Batch};
 ghost use Rattle.ec_log.specs.Log.{closure_of, empty, issue, pick, after_pick, batch, kept, lost, end};
 ghost use Rattle.ec_log.specs.declared.state.Asked.{Asked};
 ghost use Rattle.ec_log.specs.declared.state.LogState.{LogState};
-ghost use Rattle.ec_machine_laws.specs.Logs.{IsUnderWay, IsLog, Agrees, TellsDurable};
+ghost use Rattle.ec_machine_laws.specs.Logs.{IsUnderWay, IsLog, WindowAgrees, TellsDurable};
 ghost use Rattle.ec_machine_laws.specs.Picks.{IsRest};
 
 /// Whatever is done with a log, its batches keep undurable operations of their own, and with them
@@ -37,10 +37,10 @@ pub fn batches_stay_the_same()
 /// The window has each batch that was sent and isn't under way, and none that wasn't sent; so it
 /// reaches each one under way.
 pub fn windows_agree_with_logs()
-    ensures pick { (l : LogState) → IsLog l → (a : Asked) (w : Window) → Agrees w l → Agrees w (after_pick (pick a l) l) }
-    ensures kept { (l : LogState) → IsLog l → (b : ℕ) (w : Window) → Agrees w l → T (has w b) → Agrees w (kept b l) }
-    ensures mark { (w : Window) (l : LogState) (b : ℕ) → Agrees w l → b < l.next_batch → Agrees (after_mark w b) l }
-    ensures near { (l : LogState) → IsLog l → (w : Window) → Agrees w l → has w (w.low + 1) ≡ false → (b : ℕ) (ns : List ℕ) → IsUnderWay l b ns → b ≤ w.low + 8 }
+    ensures pick { (l : LogState) → IsLog l → (a : Asked) (w : Window) → WindowAgrees w l → WindowAgrees w (after_pick (pick a l) l) }
+    ensures kept { (l : LogState) → IsLog l → (b : ℕ) (w : Window) → WindowAgrees w l → T (has w b) → WindowAgrees w (kept b l) }
+    ensures mark { (w : Window) (l : LogState) (b : ℕ) → WindowAgrees w l → b < l.next_batch → WindowAgrees (after_mark w b) l }
+    ensures near { (l : LogState) → IsLog l → (w : Window) → WindowAgrees w l → has w (w.low + 1) ≡ false → (b : ℕ) (ns : List ℕ) → IsUnderWay l b ns → b ≤ w.low + 8 }
 {}
 
 /// A lost operation stands in no batch that the window has, and each other undurable one does. Where

@@ -8,7 +8,7 @@ ghost use Rattle.ec_log.specs.declared.state.Asked.TheVariants.{Object, Op, All}
 ghost use Rattle.ec_log.specs.declared.state.LogState.{LogState};
 ghost use Rattle.ec_log.specs.declared.state.Pick.TheVariants.{Batch, Settled, Behind};
 ghost use Rattle.ec_machine_laws.specs.PickExample.{log, sent};
-ghost use Rattle.ec_machine_laws.specs.Logs.{Agrees, TellsDurable};
+ghost use Rattle.ec_machine_laws.specs.Logs.{WindowAgrees, TellsDurable};
 ghost use Rattle.ec_machine_laws.specs.Picks.{IsRest};
 
 /// An overwrite takes along the one under it; what changes the file waits for both.
@@ -26,6 +26,6 @@ pub fn picks_can_come()
 /// without batches.
 pub fn premises_can_be_met()
     ensures rest { (done : ℕ → Bool) → IsRest [] done empty }
-    ensures agrees { (l : LogState) → l.batches ≡ [] → l.next_batch ≡ 1 → Agrees new_window l }
+    ensures agrees { (l : LogState) → l.batches ≡ [] → l.next_batch ≡ 1 → WindowAgrees new_window l }
     ensures tells { (w : Window) (l : LogState) (durable : ℕ → Bool) → l.undurable ≡ [] → l.batches ≡ [] → TellsDurable w l durable }
 {}

@@ -11,7 +11,7 @@ ghost use Rattle.ec_laws.specs.Needs.{holds_needed};
 ghost use Rattle.ec_log.specs.Log.{issue, pick, after_pick, ops_in, kept, end};
 ghost use Rattle.ec_log.specs.declared.state.Asked.{Asked};
 ghost use Rattle.ec_log.specs.declared.state.LogState.{LogState};
-ghost use Rattle.ec_machine_laws.specs.Logs.{IsUnderWay, IsLog, Agrees, TellsDurable};
+ghost use Rattle.ec_machine_laws.specs.Logs.{IsUnderWay, IsLog, WindowAgrees, TellsDurable};
 ghost use Rattle.ec_machine_laws.specs.Picks.{IsRest};
 
 /// The log goes on having what is left of a start's operations: one more, without those of a batch
@@ -26,7 +26,7 @@ pub fn logs_have_what_is_left()
 /// under way becomes durable, the durable operations go on holding what they need.
 pub fn windows_tell_what_is_durable()
     ensures issue { (w : Window) (l : LogState) (durable : ℕ → Bool) → TellsDurable w l durable → (u : Update) → durable l.next ≡ false → TellsDurable w (issue u l) durable }
-    ensures pick { (w : Window) (l : LogState) (durable : ℕ → Bool) → TellsDurable w l durable → IsLog l → Agrees w l → (a : Asked) → TellsDurable w (after_pick (pick a l) l) durable }
+    ensures pick { (w : Window) (l : LogState) (durable : ℕ → Bool) → TellsDurable w l durable → IsLog l → WindowAgrees w l → (a : Asked) → TellsDurable w (after_pick (pick a l) l) durable }
     ensures kept { (w : Window) (l : LogState) (durable : ℕ → Bool) → TellsDurable w l durable → IsLog l → (b : ℕ) → TellsDurable w (kept b l) durable }
     ensures commit { (w : Window) (l : LogState) (durable : ℕ → Bool) → TellsDurable w l durable → IsLog l → (b : ℕ) (ns : List ℕ) → IsUnderWay l b ns → is_marked (mark_answer w b) ≡ true
         → TellsDurable (after_mark w b) l (λ n. durable n || member n ns) }

@@ -37,11 +37,11 @@ making zero = 0
 making (suc n) = making n + one_if (is_making (suc n))
 
 -- a script has at most so many lines
-abbrev pub most_lines : ℕ
-most_lines = 2000
+abbrev pub most_made_lines : ℕ
+most_made_lines = 2000
 
 -- A script of so many lines has so many, none of them long, and each is a call.
 abbrev pub MadeLinesCall : Type 0
 MadeLinesCall =
-    (number count : ℕ) → count ≤ most_lines
+    (number count : ℕ) → count ≤ most_made_lines
     → (length (script_of number count) ≤ 50 * count) × (length (lines_of (script_of number count)) ≡ count) × AreCalling (lines_of (script_of number count)) (making count)

@@ -13,7 +13,7 @@ use Rattle.ec_server.specs.declared.fault.ServerFault.{ServerFault}
 use Rattle.ec_server.specs.declared.fault.ServerFault.TheVariants as server
 use Rattle.ec_store.specs.declared.store.Store.{Store}
 use Rattle.ec_marking.specs.Keeping.{IsDone, Turns, IsMarked, IfDone}
-use Rattle.ec_marking.specs.Marks.{Marked, MarkOf}
+use Rattle.ec_marking.specs.Marks.{RecordIsMarked, MarkOf}
 use Rattle.ec_marking.specs.declared.keeping.Came.{Came}
 use Rattle.ec_marking.specs.declared.keeping.Came.TheVariants as came
 use Rattle.ec_marking.specs.declared.marks.Mark.{Mark}
@@ -25,10 +25,10 @@ pub start_is : (tells : Type 0) (d : Durable) (before : List Record) (server' : 
 start_is tells d before server' store now served mark h = sym (ap (λ (t : Serving). t.rec) h.does) ∙ start_records d (ap (λ (t : Serving). t.spent) h.does)
 
 pub start_marks : (tells : Type 0) (d : Durable) (before : List Record) (server' : Server) (store : Store) (now : View) (served : Served) (mark : Option Mark) → IsDone tells (start d) d before server' store now served mark
-    → Marked mark (record_of.Epoch (start d).server.durable.epoch) d before
+    → RecordIsMarked mark (record_of.Epoch (start d).server.durable.epoch) d before
 start_marks tells d before server' store now served mark h = subst (λ (o : Option Record). MarkOf mark o d before) (start_is tells d before server' store now served mark h) h.mark_is
 
-is_marked : (T : Type 0) (x : T) (mark : Option Mark) (r : Record) (d : Durable) (before : List Record) → Marked mark r d before → IsMarked (came.Done x mark)
+is_marked : (T : Type 0) (x : T) (mark : Option Mark) (r : Record) (d : Durable) (before : List Record) → RecordIsMarked mark r d before → IsMarked (came.Done x mark)
 is_marked T x None r d before h = h
 is_marked T x (Some mark) r d before h = tt
 

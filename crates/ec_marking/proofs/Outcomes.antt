@@ -17,7 +17,7 @@ use Rattle.ec_protocol.specs.declared.server.Server.{Server as State}
 use Rattle.ec_server.specs.Clerks.{Records}
 use Rattle.ec_server.specs.Keepers.{Did, Hurts, SpendsNothing}
 use Rattle.ec_server.specs.Servers.{Does, Unstarted, GoesDown}
-use Rattle.ec_server.specs.Steps.{Leaves as FaultLeaves}
+use Rattle.ec_server.specs.Steps.{FaultLeaves}
 use Rattle.ec_server.specs.declared.server.Server.{Server}
 use Rattle.ec_server.specs.declared.fault.ServerFault.{ServerFault}
 use Rattle.ec_server.specs.declared.fault.ServerFault.TheVariants as server
@@ -26,7 +26,7 @@ use Rattle.ec_store.specs.declared.store.Store.{Store}
 use Rattle.ec_marking.specs.KeptRuns.{LeavesEither, HasRun}
 use Rattle.ec_marking.specs.Keeping.{IsDone, InDoubt, LeavesSome, CameOf, Unchanged, HasMark, Turns, IsStop, RunsIn}
 use Rattle.ec_marking.proofs.Runs.{run_same}
-use Rattle.ec_keeper.specs.Keeps.{Keeps, Leaves}
+use Rattle.ec_keeper.specs.Keeps.{KeepsRecord, LeavesRecord}
 use Rattle.ec_keeper.specs.declared.keeper.DiskKeeper.{DiskKeeper}
 use Rattle.ec_codes.specs.Formats.{Format}
 use Rattle.ec_durable.specs.Codes.{record_code}
@@ -35,7 +35,7 @@ use Rattle.ec_layout.specs.Selected.{free_now}
 use Rattle.ec_marking.specs.Held.{held_stands}
 use Rattle.ec_marking.specs.Marking.{HasMarked, MayHaveMarked, IsUnmarked, HasStopped}
 use Rattle.ec_marking.specs.declared.marking.Marking.{Marking}
-use Rattle.ec_marking.specs.Marks.{Marked, MarkOf}
+use Rattle.ec_marking.specs.Marks.{RecordIsMarked as Marked, MarkOf}
 use Rattle.ec_marking.specs.declared.keeping.Came.{Came}
 use Rattle.ec_marking.specs.declared.keeping.Came.TheVariants as came
 use Rattle.ec_marking.specs.declared.marks.Mark.{Mark}
@@ -298,7 +298,7 @@ abbrev pub disk_did : {D : Type 0} → Type 0 → (D → View) → (D → Counts
 disk_did tells view counts k r l =
     ((l.keeper.store.ghost_name ≡ k.keeper.store.ghost_name) × (l.keeper.disk.ghost_name ≡ k.keeper.disk.ghost_name)
     × (step r (view_of k.keeper.store.now) ≡ Ok (view_of l.keeper.store.now))
-    × (tells → IsHeld (view k.keeper.disk.now) k.keeper.store.now → Keeps r k.keeper.store.now l.keeper.store.now (view k.keeper.disk.now) (view l.keeper.disk.now))
+    × (tells → IsHeld (view k.keeper.disk.now) k.keeper.store.now → KeepsRecord r k.keeper.store.now l.keeper.store.now (view k.keeper.disk.now) (view l.keeper.disk.now))
     × (need_of (record_code.spell r) ≤ free_now k.keeper.store.now.selected → Called 4 (counts k.keeper.disk.now) (counts l.keeper.disk.now))
     × ((turns : ℕ) × Turned turns (counts k.keeper.disk.now).armed (counts l.keeper.disk.now).armed (Unit {0}) ⊥
     × (need_of (record_code.spell r) ≤ free_now k.keeper.store.now.selected → turns ≡ 4)
@@ -311,7 +311,7 @@ disk_broke tells view counts k r l =
     (l.marks.ghost_name ≡ k.marks.ghost_name)
     × MayHaveMarked (l.keeper ≡ k.keeper)
     ((l.keeper.store.ghost_name ≡ k.keeper.store.ghost_name) × (l.keeper.disk.ghost_name ≡ k.keeper.disk.ghost_name)
-    × (tells → IsHeld (view k.keeper.disk.now) k.keeper.store.now → Leaves r k.keeper.store.now (view k.keeper.disk.now) (view l.keeper.disk.now))
+    × (tells → IsHeld (view k.keeper.disk.now) k.keeper.store.now → LeavesRecord r k.keeper.store.now (view k.keeper.disk.now) (view l.keeper.disk.now))
     × ((turns : ℕ) × Turned turns (counts k.keeper.disk.now).armed (counts l.keeper.disk.now).armed ⊥ ⊥ × (need_of (record_code.spell r) ≤ free_now k.keeper.store.now.selected → turns ≤ 4))
     × (tells → IsHeld (view k.keeper.disk.now) k.keeper.store.now → StandsFor (view l.keeper.disk.now).synced (view_of k.keeper.store.now)))
     k.marks.now.stopped.items l.marks.now.stopped.items l.marks.now.mark r (view_of k.keeper.store.now) k.records.now.items (counts k.keeper.disk.now) (counts l.keeper.disk.now)

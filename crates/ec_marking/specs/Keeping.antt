@@ -16,7 +16,7 @@ use Rattle.ec_server.specs.declared.fault.ServerFault.TheVariants as server
 use Rattle.ec_store.specs.Store.{IsHeld, view_of}
 use Rattle.ec_store.specs.declared.store.Store.{Store}
 use Rattle.ec_marking.specs.KeptRuns.{LeavesEither, HasRun}
-use Rattle.ec_marking.specs.Marks.{IsMark, MarkOf, Marked}
+use Rattle.ec_marking.specs.Marks.{IsMark, MarkOf, RecordIsMarked}
 use Rattle.ec_marking.specs.declared.keeping.Came.{Came}
 use Rattle.ec_marking.specs.declared.keeping.Came.TheVariants.{Done, Stopped, DiskFailed, NoMemory}
 use Rattle.ec_marking.specs.declared.marks.Mark.{Mark}

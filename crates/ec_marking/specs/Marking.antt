@@ -5,18 +5,18 @@ use Rattle.ec_disk.specs.Disk.{Counts}
 use Rattle.ec_disk.specs.Effects.{Counted}
 use Rattle.ec_durable.specs.declared.state.Durable.{Durable}
 use Rattle.ec_durable.specs.declared.record.Record.{Record}
-use Rattle.ec_marking.specs.Marks.{Marked}
+use Rattle.ec_marking.specs.Marks.{RecordIsMarked}
 use Rattle.ec_marking.specs.declared.marks.Mark.{Mark}
 
 -- The record was committed, and has its mark.
 pub record HasMarked (mark : Option Mark) (r : Record) (d : Durable) (before : List Record) (old new : Counts) : Type 0 where
-  pub marked : Marked mark r d before
+  pub marked : RecordIsMarked mark r d before
   pub counted : Counted old new ⊥ ⊥
 
 -- The disk stopped in the record, which has its mark.
 pub record HasStopped (Broke : Type 0) (mark : Option Mark) (r : Record) (d : Durable) (before : List Record) (old new : Counts) : Type 0 where
   pub broke : Broke
-  pub marked : Marked mark r d before
+  pub marked : RecordIsMarked mark r d before
   pub counted : Counted old new ⊥ (Unit {0})
 
 -- Nothing was done, or the record may have been committed. It isn't marked, and no record more was stopped in.

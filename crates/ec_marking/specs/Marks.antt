@@ -12,14 +12,14 @@ pub record IsMark (mark : Mark) (r : Record) (d : Durable) (before : List Record
   pub sign_is : mark.sign ≡ sign_of r
   pub records_are : mark.records.items ≡ before ++ r ∷ []
 
-abbrev pub Marked : Option Mark → Record → Durable → List Record → Type 0
-Marked None r d before = ⊥
-Marked (Some mark) r d before = IsMark mark r d before
+abbrev pub RecordIsMarked : Option Mark → Record → Durable → List Record → Type 0
+RecordIsMarked None r d before = ⊥
+RecordIsMarked (Some mark) r d before = IsMark mark r d before
 
 -- what is known of a mark of the record, if there is one
 abbrev pub MarkOf : Option Mark → Option Record → Durable → List Record → Type 0
 MarkOf mark None d before = mark ≡ None
-MarkOf mark (Some r) d before = Marked mark r d before
+MarkOf mark (Some r) d before = RecordIsMarked mark r d before
 
 -- the record is shown, if there is one
 abbrev pub gone : Option Mark → Moving → Moving

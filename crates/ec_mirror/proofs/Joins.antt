@@ -11,14 +11,14 @@ use Rattle.ec_mirror.specs.declared.kept.Kept.{Kept}
 use Rattle.ec_mirror.specs.declared.kept.Kept.TheVariants as left
 use Rattle.ec_slots.specs.Contents.{filled}
 use Rattle.ec_slots.specs.SlotLaws.{generation_is}
-use Rattle.ec_slots.specs.Slots.{Holds, generation}
+use Rattle.ec_slots.specs.Slots.{HoldsGeneration, generation}
 use Rattle.ec_half.proofs.Fills.{length-filled}
 
 either : (b : Bool) (P N : Type 0) → (b ≡ true → N) → (b ≡ false → P → ⊥) → P → N
 either true P N if_open if_shut p = if_open refl
 either false P N if_open if_shut p = absurd (if_shut refl p)
 
-found-holds : (image : List ℕ) (g : Generation) → 4096 < length image → IsFound image g → Holds image g.slot g.number
+found-holds : (image : List ℕ) (g : Generation) → 4096 < length image → IsFound image g → HoldsGeneration image g.slot g.number
 found-holds image g long found = record {
   long = omega (arith, long);
   is_open = found.is_open;

@@ -5,10 +5,10 @@ use Rattle.std.proofs.lemmas.Bool.Decides.{nat_tests}
 use Rattle.ec_base.specs.Outside.{one_more}
 use Rattle.ec_disk.specs.Counting.{counted_both}
 use Rattle.ec_disk.specs.Disk.{Counts, after_calls}
-use Rattle.ec_disk.specs.Effects.{Counted, CountsDown, IsDue, IsOver}
+use Rattle.ec_disk.specs.Effects.{Counted, CountsDown, IsDue, IsUnarmed}
 use Rattle.ec_disk.specs.declared.disk.DiskAnswer.{DiskAnswer}
 use Rattle.ec_disk.specs.declared.disk.DiskAnswer.TheVariants as said
-use Rattle.ec_mirror.specs.Tally.{counts_of, told, behind_cut, Turned}
+use Rattle.ec_mirror.specs.Tally.{counts_of, told, behind_cut, TallyTurned}
 use Rattle.ec_mirror.specs.declared.tally.Tally.{Tally}
 use Rattle.ec_disk.proofs.TurnLaws.{less_armed, less_over}
 
@@ -16,7 +16,7 @@ due_armed : (armed : Option ℕ) → IsDue armed → IsSome armed
 due_armed None due = absurd due
 due_armed (Some n) due = grind arith
 
-due_over : (armed : Option ℕ) → IsDue armed → IsOver (after_calls 1 armed)
+due_over : (armed : Option ℕ) → IsDue armed → IsUnarmed (after_calls 1 armed)
 due_over None due = tt
 due_over (Some n) due = omega (arith, due)
 
@@ -29,7 +29,7 @@ counted_on old new S faults stops armed none = record {
   stopped = λ s. absurd (none s);
   armed = λ s. absurd (none s);
   not_rearmed = λ some. less_armed old.armed (subst IsSome armed some);
-  stays = λ over. subst IsOver (sym armed) (less_over old.armed over);
+  stays = λ over. subst IsUnarmed (sym armed) (less_over old.armed over);
   over = λ s. absurd (none s);
 }
 
@@ -41,8 +41,8 @@ counted_off old new S faults stops armed due = record {
   stopped = λ s. omega (arith, stops);
   armed = λ s. due_armed old.armed due;
   not_rearmed = λ some. less_armed old.armed (subst IsSome armed some);
-  stays = λ over. subst IsOver (sym armed) (less_over old.armed over);
-  over = λ s. subst IsOver (sym armed) (due_over old.armed due);
+  stays = λ over. subst IsUnarmed (sym armed) (less_over old.armed over);
+  over = λ s. subst IsUnarmed (sym armed) (due_over old.armed due);
 }
   where
     more : (n : ℕ) → n ≤ one_more n
@@ -92,16 +92,16 @@ told_counts said.NoMemory t = nothing t _ (λ e. absurd (grind (arith, e)))
 
 -- behind such a turn
 module _ (old mid : Tally) (G S : Type 0) (counts : Counted (counts_of old) (counts_of mid) ⊥ S) (down : CountsDown old.armed mid.armed G S) (due : IsDue old.armed → G → ⊥) (call : mid.calls ≡ one_more old.calls) where
-  pub turned_on : (answer : DiskAnswer) (new : Tally) → G → (answer ≡ said.Stopped → ⊥) → new ≡ told answer mid → Turned answer old new
-  turned_on answer new goes never is = subst (λ (t : Tally). Turned answer old t) (sym is) record {
+  pub turned_on : (answer : DiskAnswer) (new : Tally) → G → (answer ≡ said.Stopped → ⊥) → new ≡ told answer mid → TallyTurned answer old new
+  turned_on answer new goes never is = subst (λ (t : Tally). TallyTurned answer old t) (sym is) record {
     counts = counted_both (counts_of old) (counts_of mid) (counts_of (told answer mid)) ⊥ S (answer ≡ said.Failed) ⊥ (answer ≡ said.Failed) (answer ≡ said.Stopped) counts (told_counts answer mid) (λ f. inr f) (λ s. absurd (never s));
     armed = record { next = told_armed answer mid ∙ down.next; stops = λ s. absurd (never s); goes = λ d. λ is_due. due is_due goes };
     due = λ is_due. absurd (due is_due goes);
     call = told_calls answer mid ∙ call;
   }
 
-  pub turned_off : (answer : DiskAnswer) (new : Tally) → S → answer ≡ said.Stopped → new ≡ mid → Turned answer old new
-  turned_off answer new stops so is = subst (λ (t : Tally). Turned answer old t) (sym is) record {
+  pub turned_off : (answer : DiskAnswer) (new : Tally) → S → answer ≡ said.Stopped → new ≡ mid → TallyTurned answer old new
+  turned_off answer new stops so is = subst (λ (t : Tally). TallyTurned answer old t) (sym is) record {
     counts = record {
       faults_later = counts.faults_later;
       stops_later = counts.stops_later;

@@ -25,7 +25,7 @@ behind_cut said.Stopped t = t
 behind_cut said.NoMemory t = t
 
 -- a read, write or sync that answers so
-pub record Turned (answer : DiskAnswer) (old new : Tally) : Type 0 where
+pub record TallyTurned (answer : DiskAnswer) (old new : Tally) : Type 0 where
   pub counts : Counted (counts_of old) (counts_of new) (answer ≡ said.Failed) (answer ≡ said.Stopped)
   pub armed : CountsDown old.armed new.armed (answer ≡ said.Done) (answer ≡ said.Stopped)
   pub due : IsDue old.armed → answer ≡ said.Stopped

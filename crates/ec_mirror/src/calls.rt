@@ -5,7 +5,7 @@ ghost use Rattle.ec_disk.specs.Effects.{Counted};
 ghost use Rattle.ec_disk.specs.declared.disk.DiskAnswer.TheVariants as said;
 ghost use Rattle.ec_disk.specs.declared.disk.DiskLen.TheVariants as len;
 ghost use Rattle.ec_mirror.specs.declared.kept.Kept.TheVariants as left;
-ghost use Rattle.ec_mirror.specs.Tally.{counts_of, told, Turned};
+ghost use Rattle.ec_mirror.specs.Tally.{counts_of, told, TallyTurned};
 
 use crate::kept::Kept;
 use crate::parts::Parts;
@@ -14,7 +14,7 @@ use ec_disk::{CrashDisk, DiskAnswer, DiskLen};
 
 impl<'a, A: CrashDisk, B: CrashDisk> Parts<'a, A, B> {
     pub(crate) fn read_at(&mut self, at: u64, into: &mut [u8]) -> DiskAnswer
-        ensures { Turned result self.old.tally self.new.tally }
+        ensures { TallyTurned result self.old.tally self.new.tally }
     {
         match self.tally.next() {
             Turn::Goes => self.read(at, into),
@@ -24,7 +24,7 @@ impl<'a, A: CrashDisk, B: CrashDisk> Parts<'a, A, B> {
     }
 
     pub(crate) fn write_at(&mut self, at: u64, piece: &[u8]) -> DiskAnswer
-        ensures { Turned result self.old.tally self.new.tally }
+        ensures { TallyTurned result self.old.tally self.new.tally }
     {
         match self.tally.next() {
             Turn::Goes => self.write(at, piece),
@@ -34,7 +34,7 @@ impl<'a, A: CrashDisk, B: CrashDisk> Parts<'a, A, B> {
     }
 
     pub(crate) fn sync(&mut self) -> DiskAnswer
-        ensures { Turned result self.old.tally self.new.tally }
+        ensures { TallyTurned result self.old.tally self.new.tally }
     {
         match self.tally.next() {
             Turn::Goes => self.sync_kept(),

@@ -1,7 +1,7 @@
 // Two disks become a mirror.
 ghost use Rattle.std.specs.Prelude.{◌≡◌, ◌⊎◌, ◌≤◌, ◌<◌, ◌+◌, ℕ, Err, IsOk, IfOk, length, true, false};
-ghost use Rattle.ec_half.specs.Contents.{behind, HasHeader, Rested};
-ghost use Rattle.ec_half.specs.Headers.{IsNoHalf, IsOf, MayBeHalf};
+ghost use Rattle.ec_half.specs.Contents.{content_behind, HasHeader, Rested};
+ghost use Rattle.ec_half.specs.Headers.{IsNoHalf, IsFoundOf, MayBeHalf};
 ghost use Rattle.ec_half.specs.declared.fault.MirrorFault.TheVariants as fault;
 ghost use Rattle.ec_mirror.specs.declared.kept.Kept.TheVariants as left;
 ghost use Rattle.ec_mirror.specs.Joins.{content_of, joined_of, lead, number_of};
@@ -26,8 +26,8 @@ impl<'a, A: CrashDisk, B: CrashDisk> Mirror<'a, A, B> {
         ensures bad_second { (place : ℕ) → result ≡ Err (fault.BadMirror 2 place) → B.tells → IsNoHalf (B.view second.old).gives place }
         ensures first_is_good { (place : ℕ) → result ≡ Err (fault.BadMirror 2 place) → A.tells → MayBeHalf (A.view first.old).gives }
         ensures both_are_good { IsOk result → (A.tells → MayBeHalf (A.view first.old).gives) × (B.tells → MayBeHalf (B.view second.old).gives) }
-        ensures content { IfOk result (λ mirror. A.tells → B.tells → (lead mirror.parts.present.pair.kept (behind (A.view mirror.parts.present.pair.first.disk.now)) (behind (B.view mirror.parts.present.pair.second.disk.now))).gives ≡ content_of (A.view first.old).gives (B.view second.old).gives) }
-        ensures alike { IfOk result (λ mirror. A.tells → B.tells → mirror.parts.present.pair.kept ≡ left.Both → (behind (A.view mirror.parts.present.pair.first.disk.now)).gives ≡ (behind (B.view mirror.parts.present.pair.second.disk.now)).gives) }
+        ensures content { IfOk result (λ mirror. A.tells → B.tells → (lead mirror.parts.present.pair.kept (content_behind (A.view mirror.parts.present.pair.first.disk.now)) (content_behind (B.view mirror.parts.present.pair.second.disk.now))).gives ≡ content_of (A.view first.old).gives (B.view second.old).gives) }
+        ensures alike { IfOk result (λ mirror. A.tells → B.tells → mirror.parts.present.pair.kept ≡ left.Both → (content_behind (A.view mirror.parts.present.pair.first.disk.now)).gives ≡ (content_behind (B.view mirror.parts.present.pair.second.disk.now)).gives) }
     {
         let found_first = match look_at(first, 1) {
             Ok(found) => found,
@@ -62,8 +62,8 @@ fn made<'a, A: CrashDisk, B: CrashDisk>(
     second: &'a mut B,
     found_second: Found,
 ) -> Result<Mirror<'a, A, B>, DiskAnswer>
-    ensures content { IfOk result (λ mirror. A.tells → B.tells → IsOf found_first (A.view first.old).gives → IsOf found_second (B.view second.old).gives → (lead mirror.parts.present.pair.kept (behind (A.view mirror.parts.present.pair.first.disk.now)) (behind (B.view mirror.parts.present.pair.second.disk.now))).gives ≡ content_of (A.view first.old).gives (B.view second.old).gives) }
-    ensures alike { IfOk result (λ mirror. A.tells → B.tells → IsOf found_first (A.view first.old).gives → IsOf found_second (B.view second.old).gives → mirror.parts.present.pair.kept ≡ left.Both → (behind (A.view mirror.parts.present.pair.first.disk.now)).gives ≡ (behind (B.view mirror.parts.present.pair.second.disk.now)).gives) }
+    ensures content { IfOk result (λ mirror. A.tells → B.tells → IsFoundOf found_first (A.view first.old).gives → IsFoundOf found_second (B.view second.old).gives → (lead mirror.parts.present.pair.kept (content_behind (A.view mirror.parts.present.pair.first.disk.now)) (content_behind (B.view mirror.parts.present.pair.second.disk.now))).gives ≡ content_of (A.view first.old).gives (B.view second.old).gives) }
+    ensures alike { IfOk result (λ mirror. A.tells → B.tells → IsFoundOf found_first (A.view first.old).gives → IsFoundOf found_second (B.view second.old).gives → mirror.parts.present.pair.kept ≡ left.Both → (content_behind (A.view mirror.parts.present.pair.first.disk.now)).gives ≡ (content_behind (B.view mirror.parts.present.pair.second.disk.now)).gives) }
 {
     let first = begun(first, found_first)?;
     let second = begun(second, found_second)?;
@@ -87,9 +87,9 @@ fn made<'a, A: CrashDisk, B: CrashDisk>(
 // A disk with its generation; an empty one gets a header.
 fn begun<'a, D: CrashDisk>(disk: &'a mut D, found: Found) -> Result<Half<'a, D>, DiskAnswer>
     ensures most { IfOk result (λ half. half.most ≡ half.generation.number) }
-    ensures number { IfOk result (λ half. D.tells → IsOf found (D.view disk.old).gives → half.generation.number ≡ number_of (D.view disk.old).gives) }
-    ensures header { IfOk result (λ half. D.tells → IsOf found (D.view disk.old).gives → HasHeader (D.view half.disk.now)) }
-    ensures content { IfOk result (λ half. D.tells → IsOf found (D.view disk.old).gives → content (D.view half.disk.now).gives ≡ content (D.view disk.old).gives) }
+    ensures number { IfOk result (λ half. D.tells → IsFoundOf found (D.view disk.old).gives → half.generation.number ≡ number_of (D.view disk.old).gives) }
+    ensures header { IfOk result (λ half. D.tells → IsFoundOf found (D.view disk.old).gives → HasHeader (D.view half.disk.now)) }
+    ensures content { IfOk result (λ half. D.tells → IsFoundOf found (D.view disk.old).gives → content (D.view half.disk.now).gives ≡ content (D.view disk.old).gives) }
 {
     match found {
         Found::Half(generation) => Ok(Half::new(disk, generation)),
@@ -114,8 +114,8 @@ fn joined<'a, A: CrashDisk, B: CrashDisk>(
     ensures whole { pair.new.kept ≡ left.Leaving → ⊥ }
     ensures without_first { pair.new.kept ≡ left.Second → pair.new.first.has_failed ≡ true }
     ensures without_second { pair.new.kept ≡ left.First → pair.new.second.has_failed ≡ true }
-    ensures content { IfOk result (λ made. A.tells → B.tells → HasHeader (A.view pair.old.first.disk.now) → HasHeader (B.view pair.old.second.disk.now) → (lead pair.new.kept (behind (A.view pair.new.first.disk.now)) (behind (B.view pair.new.second.disk.now))).gives ≡ joined_of pair.old.first.generation.number pair.old.second.generation.number (behind (A.view pair.old.first.disk.now)).gives (behind (B.view pair.old.second.disk.now)).gives) }
-    ensures alike { IfOk result (λ made. A.tells → B.tells → HasHeader (A.view pair.old.first.disk.now) → HasHeader (B.view pair.old.second.disk.now) → pair.new.kept ≡ left.Both → (behind (A.view pair.new.first.disk.now)).gives ≡ (behind (B.view pair.new.second.disk.now)).gives) }
+    ensures content { IfOk result (λ made. A.tells → B.tells → HasHeader (A.view pair.old.first.disk.now) → HasHeader (B.view pair.old.second.disk.now) → (lead pair.new.kept (content_behind (A.view pair.new.first.disk.now)) (content_behind (B.view pair.new.second.disk.now))).gives ≡ joined_of pair.old.first.generation.number pair.old.second.generation.number (content_behind (A.view pair.old.first.disk.now)).gives (content_behind (B.view pair.old.second.disk.now)).gives) }
+    ensures alike { IfOk result (λ made. A.tells → B.tells → HasHeader (A.view pair.old.first.disk.now) → HasHeader (B.view pair.old.second.disk.now) → pair.new.kept ≡ left.Both → (content_behind (A.view pair.new.first.disk.now)).gives ≡ (content_behind (B.view pair.new.second.disk.now)).gives) }
 {
     if pair.second.generation.number <= pair.first.generation.number {
         let joined = join_from(&mut pair.first, &mut pair.second, number)?;
@@ -152,8 +152,8 @@ fn join_from<S: CrashDisk, O: CrashDisk>(
     ensures most { IfOk result (λ joined. joined ≡ true → source.new.most ≤ number) }
     ensures most_alone { IfOk result (λ joined. source.new.most ≤ number + 1) }
     ensures other_most { IfOk result (λ joined. other.new.most ≤ number) }
-    ensures content { IfOk result (λ joined. S.tells → O.tells → HasHeader (S.view source.old.disk.now) → (behind (S.view source.new.disk.now)).gives ≡ filled (behind (S.view source.old.disk.now)).gives (length (behind (O.view other.old.disk.now)).gives)) }
-    ensures alike { IfOk result (λ joined. joined ≡ true → S.tells → O.tells → HasHeader (S.view source.old.disk.now) → HasHeader (O.view other.old.disk.now) → (behind (O.view other.new.disk.now)).gives ≡ (behind (S.view source.new.disk.now)).gives) }
+    ensures content { IfOk result (λ joined. S.tells → O.tells → HasHeader (S.view source.old.disk.now) → (content_behind (S.view source.new.disk.now)).gives ≡ filled (content_behind (S.view source.old.disk.now)).gives (length (content_behind (O.view other.old.disk.now)).gives)) }
+    ensures alike { IfOk result (λ joined. joined ≡ true → S.tells → O.tells → HasHeader (S.view source.old.disk.now) → HasHeader (O.view other.old.disk.now) → (content_behind (O.view other.new.disk.now)).gives ≡ (content_behind (S.view source.new.disk.now)).gives) }
 {
     let len = len_of(source)?;
     let other_len = len_of(other)?;
@@ -171,8 +171,8 @@ fn join_from<S: CrashDisk, O: CrashDisk>(
 fn len_of<D: CrashDisk>(half: &mut Half<'_, D>) -> Result<u64, DiskAnswer>
     ensures generation { half.new.generation ≡ half.old.generation }
     ensures most { half.new.most ≡ half.old.most }
-    ensures len { IfOk result (λ len. D.tells → len ≡ length (behind (D.view half.old.disk.now)).gives) }
-    ensures rests { D.tells → Rested (behind (D.view half.old.disk.now)) (behind (D.view half.new.disk.now)) }
+    ensures len { IfOk result (λ len. D.tells → len ≡ length (content_behind (D.view half.old.disk.now)).gives) }
+    ensures rests { D.tells → Rested (content_behind (D.view half.old.disk.now)) (content_behind (D.view half.new.disk.now)) }
     ensures header { D.tells → HasHeader (D.view half.old.disk.now) → HasHeader (D.view half.new.disk.now) }
 {
     match half.len() {

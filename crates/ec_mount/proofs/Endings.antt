@@ -17,7 +17,7 @@ use Rattle.ec_mount.specs.Script.{most_bytes, GivesRows, lanes_of}
 use Rattle.ec_mount.specs.Withheld.{Withholds}
 use Rattle.ec_mount.specs.Shown.{came_text, mount_text, old_boot_text, peer_text}
 use Rattle.ec_mount.specs.Work.{Given, Works, WorksTo}
-use Rattle.ec_mount.specs.Writes.{Wrote, WroteAs, Silent, Refuses, TellsEnd, TellsWork, ended_by}
+use Rattle.ec_mount.specs.Writes.{Wrote, WroteAs, Silent, RefusesRows, TellsEnd, TellsWork, ended_by}
 use Rattle.ec_mount.specs.declared.script.Row.{Row}
 use Rattle.ec_mount.specs.declared.script.Unread.{Unread}
 use Rattle.ec_mount.specs.declared.script.Unread.TheVariants as unread
@@ -53,7 +53,7 @@ module _ (id boot : ℕ) (w : Outside) where
   wanting result p = subst (λ s. Mounts id boot s w) (sym p.0) (inr p.1)
 
   -- there were no rows
-  pub refused : (why : Unread) (result : Status) → w.net_after ≡ w.net → Withholds w.left w.left_after w.reads w.reads_after why → Refuses why result w.held w.held_after w.writes w.writes_after → Mounts id boot result w
+  pub refused : (why : Unread) (result : Status) → w.net_after ≡ w.net → Withholds w.left w.left_after w.reads w.reads_after why → RefusesRows why result w.held w.held_after w.writes w.writes_after → Mounts id boot result w
   refused unread.Bytes result same h p = ends_as status.Limit (shown_text (shown.Limit limit.Bytes (most_bytes + 1))) result (limit.Bytes, most_bytes + 1, (refl, h.0, h.1, h.2), same, refl) p
   refused (unread.Lines n) result same h p = ends_as status.Limit (shown_text (shown.Limit limit.Lines n)) result (limit.Lines, n, h, same, refl) p
   refused (unread.Bad n column) result same h p =

@@ -32,7 +32,7 @@ use Rattle.ec_mount.specs.Run.{NetSeen, AreTold, Ran, Holds, HoldsFronts, Has, M
 use Rattle.ec_mount.specs.RunsAlone.{RanAlone}
 use Rattle.ec_mount.specs.Run as run
 use Rattle.ec_mount.specs.Calls.{HoldsAll, FrontsStand, IfSaid, CallsEnd, Called}
-use Rattle.ec_mount.specs.Work.{Given, LinkSeen, RanOver, Cut, Tells, UnlessWanting, Concludes, last_of, RunsOver, WorksOver, Works, WorksTo}
+use Rattle.ec_mount.specs.Work.{Given, LinkSeen, RanOver, Cut, TellsAnswer, UnlessWanting, Concludes, last_answer, RunsOver, WorksOver, Works, WorksTo}
 use Rattle.ec_mount.specs.Linking.{AreToldFrom, HasLinked, nets_in}
 use Rattle.ec_mount.proofs.Causes.{has_longer, net_counted}
 use Rattle.ec_mount.proofs.Linking.{whole_now, told_now, told_behind, told_all, told_from, nets_parts, nets_last, some_of, bad_of}
@@ -92,7 +92,7 @@ module _ {L : Type 0} (lock : TracedLock (Node L) Step) (old called closed : Pas
     cut : (none : boot ≡ None) (f : NodeFault) → Has f (front called) → FrontsStand lock called lanes all → Cut lanes (front closed) all told f
     cut none f h s = record { old_boot = sym boot_is ∙ none; has = has_longer (front called) (front closed) later f h; came = holds_fronts s; told_is = told_is }
 
-    told_more : (none : boot ≡ None) (f : NodeFault) → Has f (front called) → IfSaid f (FrontsStand lock called lanes all) → Tells lanes (front closed) all told (Err f)
+    told_more : (none : boot ≡ None) (f : NodeFault) → Has f (front called) → IfSaid f (FrontsStand lock called lanes all) → TellsAnswer lanes (front closed) all told (Err f)
     told_more none fault.Net h s = cut none fault.Net h s
     told_more none (fault.Peer why) h s = cut none (fault.Peer why) h s
     told_more none (fault.Long n) h s = cut none (fault.Long n) h s
@@ -100,11 +100,11 @@ module _ {L : Type 0} (lock : TracedLock (Node L) Step) (old called closed : Pas
     told_more none (fault.Spent k) h s = cut none (fault.Spent k) h s
     told_more none fault.NoMemory h s = tt
 
-    told_so : (none : boot ≡ None) (r : Result Reply NodeFault) → CallsEnd lock called lanes all r → Tells lanes (front closed) all told r
+    told_so : (none : boot ≡ None) (r : Result Reply NodeFault) → CallsEnd lock called lanes all r → TellsAnswer lanes (front closed) all told r
     told_so none (Ok last) d = (sym boot_is ∙ none, holds_all last d, told_is)
     told_so none (Err f) d = told_more none f d.0 d.1
 
-    tells : (b : Option Age) → boot ≡ b → Tells lanes (front closed) all told (last_of b made)
+    tells : (b : Option Age) → boot ≡ b → TellsAnswer lanes (front closed) all told (last_answer b made)
     tells None e = told_so e made c.done
     tells (Some age) e = sym boot_is ∙ e
 
@@ -145,9 +145,9 @@ module _ {L : Type 0} (lock : TracedLock (Node L) Step) (old called closed : Pas
     pub runs_over : (k : Option Clerk) (told : List (List ℕ)) (boot : Option Age) (given_all : Given) → HasLinked counts given got first called before after → Finished counts given got first (front closed) k back → IfSome k (λ _. AreSaid (front closed)) → IfSome k (λ _. told ≡ told_by (front closed))
         → boot ≡ old_boot (front closed) → Concludes k told boot all made given_all → RunsOver clerk [] lanes (seen_of counts given got link) (seen_of counts given got back) before after given_all
     runs_over None told boot r l f said t b h =
-        subst (λ x. UnlessWanting x ((steps : List Step) × RanOver clerk [] (seen_of counts given got link) (seen_of counts given got back) before after steps × Tells lanes steps r.0 r.1 x)) (sym h) tt
+        subst (λ x. UnlessWanting x ((steps : List Step) × RanOver clerk [] (seen_of counts given got link) (seen_of counts given got back) before after steps × TellsAnswer lanes steps r.0 r.1 x)) (sym h) tt
     runs_over (Some k) told boot r l f said t b h = subst (λ x. RunsOver clerk [] lanes (seen_of counts given got link) (seen_of counts given got back) before after x) (sym h)
-        (unless (last_of boot made) _ (front closed, ran_over k l f said, tells told t boot b boot refl))
+        (unless (last_answer boot made) _ (front closed, ran_over k l f said, tells told t boot b boot refl))
 
 -- The link is left, which changes nothing that is told of it.
 

@@ -22,8 +22,8 @@ use Rattle.ec_mount.specs.declared.work.Answers.{Answers}
 abbrev pub Given : Type 0
 Given = List (List Reply) × List (List ℕ) × Result Reply NodeFault
 
-abbrev pub seen : Answers → Given
-seen a = (lists_of a.lanes, a.told.items, a.last)
+abbrev pub given_of : Answers → Given
+given_of a = (lists_of a.lanes, a.told.items, a.last)
 
 -- a link, by its count of faults and closes, and what it gave and got, where told
 pub record LinkSeen : Type 0 where
@@ -49,14 +49,14 @@ pub record Cut (lanes : List (List Call)) (steps : List Step) (all : List (List 
   pub told_is : told ≡ told_by steps
 
 -- what the steps hold of an answer, or of a fault
-abbrev pub Tells : List (List Call) → List Step → List (List Reply) → List (List ℕ) → Result Reply NodeFault → Type 0
-Tells lanes steps all told (Ok last) = (old_boot steps ≡ None) × Holds 0 lanes steps all last × (told ≡ told_by steps)
-Tells lanes steps all told (Err fault.Net) = Cut lanes steps all told fault.Net
-Tells lanes steps all told (Err (fault.Peer why)) = Cut lanes steps all told (fault.Peer why)
-Tells lanes steps all told (Err (fault.Long n)) = Cut lanes steps all told (fault.Long n)
-Tells lanes steps all told (Err (fault.OldBoot age)) = Has (fault.OldBoot age) steps
-Tells lanes steps all told (Err (fault.Spent c)) = Cut lanes steps all told (fault.Spent c)
-Tells lanes steps all told (Err fault.NoMemory) = Unit {0}
+abbrev pub TellsAnswer : List (List Call) → List Step → List (List Reply) → List (List ℕ) → Result Reply NodeFault → Type 0
+TellsAnswer lanes steps all told (Ok last) = (old_boot steps ≡ None) × Holds 0 lanes steps all last × (told ≡ told_by steps)
+TellsAnswer lanes steps all told (Err fault.Net) = Cut lanes steps all told fault.Net
+TellsAnswer lanes steps all told (Err (fault.Peer why)) = Cut lanes steps all told (fault.Peer why)
+TellsAnswer lanes steps all told (Err (fault.Long n)) = Cut lanes steps all told (fault.Long n)
+TellsAnswer lanes steps all told (Err (fault.OldBoot age)) = Has (fault.OldBoot age) steps
+TellsAnswer lanes steps all told (Err (fault.Spent c)) = Cut lanes steps all told (fault.Spent c)
+TellsAnswer lanes steps all told (Err fault.NoMemory) = Unit {0}
 
 -- for want of memory nothing is said
 abbrev pub UnlessWanting : {A : Type 0} → Result A NodeFault → Type 0 → Type 0
@@ -68,18 +68,18 @@ UnlessWanting (Err (fault.OldBoot age)) P = P
 UnlessWanting (Err (fault.Spent c)) P = P
 UnlessWanting (Err fault.NoMemory) P = Unit {0}
 
-abbrev pub last_of : Option Age → Result Reply NodeFault → Result Reply NodeFault
-last_of None last = last
-last_of (Some age) last = Err (fault.OldBoot age)
+abbrev pub last_answer : Option Age → Result Reply NodeFault → Result Reply NodeFault
+last_answer None last = last
+last_answer (Some age) last = Err (fault.OldBoot age)
 
 -- what is answered, by what the shared clerk handed back
 abbrev pub Concludes : Option Clerk → List (List ℕ) → Option Age → List (List Reply) → Result Reply NodeFault → Given → Type 0
 Concludes None told boot all last given = given.2 ≡ Err fault.NoMemory
-Concludes (Some c) told boot all last given = given ≡ (all, told, last_of boot last)
+Concludes (Some c) told boot all last given = given ≡ (all, told, last_answer boot last)
 
 -- the clerk ran over links, of which the last one is left
 abbrev pub RunsOver : Clerk → List Out → List (List Call) → LinkSeen → LinkSeen → NetSeen → NetSeen → Given → Type 0
-RunsOver clerk outs lanes old new before after given = UnlessWanting given.2 ((steps : List Step) × RanOver clerk outs old new before after steps × Tells lanes steps given.0 given.1 given.2)
+RunsOver clerk outs lanes old new before after given = UnlessWanting given.2 ((steps : List Step) × RanOver clerk outs old new before after steps × TellsAnswer lanes steps given.0 given.1 given.2)
 
 -- the same, or the first link failed before
 abbrev pub WorksOver : Clerk → List Out → List (List Call) → LinkSeen → LinkSeen → NetSeen → NetSeen → Given → Type 0
@@ -87,7 +87,7 @@ WorksOver clerk outs lanes old new before after given = ((given ≡ ([], [], Err
 
 -- a clerk was started, run over a link of the net and ended
 abbrev pub WorksTo : ℕ → ℕ → List (List Call) → NetSeen → NetSeen → List (List Reply) → List (List ℕ) → Result Reply NodeFault → Type 0
-WorksTo id boot lanes before after all told (Ok last) = (steps : List Step) × Ran id boot before after steps × Tells lanes steps all told (Ok last)
+WorksTo id boot lanes before after all told (Ok last) = (steps : List Step) × Ran id boot before after steps × TellsAnswer lanes steps all told (Ok last)
 WorksTo id boot lanes before after all told (Err fault.Net) = Lost id boot lanes before after all told
 WorksTo id boot lanes before after all told (Err (fault.Peer why)) = Met id boot lanes before after (fault.Peer why) all told
 WorksTo id boot lanes before after all told (Err (fault.Long n)) = Met id boot lanes before after (fault.Long n) all told

@@ -40,12 +40,12 @@ abbrev pub Silent : Status → Status → Option (List ℕ) → Option (List ℕ
 Silent st result held now = (result ≡ st) × (now ≡ held)
 
 -- what is told where there are no rows
-abbrev pub Refuses : Unread → Status → Option (List ℕ) → Option (List ℕ) → ℕ → ℕ → Type 0
-Refuses unread.Bytes result held now before later = WroteAs (shown_text (shown.Limit limit.Bytes (most_bytes + 1))) status.Limit result held now before later
-Refuses (unread.Lines n) result held now before later = WroteAs (shown_text (shown.Limit limit.Lines n)) status.Limit result held now before later
-Refuses (unread.Bad n column) result held now before later = WroteAs (shown_text (shown.Bad n column)) status.BadLine result held now before later
-Refuses unread.Source result held now before later = Silent status.SourceFault result held now
-Refuses unread.NoMemory result held now before later = Silent status.NoMemory result held now
+abbrev pub RefusesRows : Unread → Status → Option (List ℕ) → Option (List ℕ) → ℕ → ℕ → Type 0
+RefusesRows unread.Bytes result held now before later = WroteAs (shown_text (shown.Limit limit.Bytes (most_bytes + 1))) status.Limit result held now before later
+RefusesRows (unread.Lines n) result held now before later = WroteAs (shown_text (shown.Limit limit.Lines n)) status.Limit result held now before later
+RefusesRows (unread.Bad n column) result held now before later = WroteAs (shown_text (shown.Bad n column)) status.BadLine result held now before later
+RefusesRows unread.Source result held now before later = Silent status.SourceFault result held now
+RefusesRows unread.NoMemory result held now before later = Silent status.NoMemory result held now
 
 -- what is told of the clerk's run
 abbrev pub TellsEnd : List ℕ → Result Reply NodeFault → Status → Option (List ℕ) → Option (List ℕ) → ℕ → ℕ → Type 0

@@ -4,8 +4,8 @@ ghost use Rattle.ec_link.specs.Spawns.{faults_of};
 ghost use Rattle.ec_mount.specs.Mount.{Mounts, StartsAs};
 ghost use Rattle.ec_mount.specs.Run.{place_in};
 ghost use Rattle.ec_mount.specs.Shown.{came_text};
-ghost use Rattle.ec_mount.specs.Work.{seen};
-ghost use Rattle.ec_mount.specs.Writes.{ended_by, WroteAs, Refuses, TellsWork};
+ghost use Rattle.ec_mount.specs.Work.{given_of};
+ghost use Rattle.ec_mount.specs.Writes.{ended_by, WroteAs, RefusesRows, TellsWork};
 
 use crate::limits::MOST_BYTES;
 use crate::script::{Row, Unread, lanes_of, rows_of};
@@ -73,7 +73,7 @@ pub fn mount<S: Source, K: Sink, N: Net, R: Around + Eprint>(
 // Ends a mount whose script gives no rows.
 fn refuse<K: Sink>(alloc: Global, sink: &mut K, why: Unread) -> Status
     ensures later { K.faults sink.old ≤ K.faults sink.new }
-    ensures refused { Refuses why result (K.held sink.old) (K.held sink.new) (K.faults sink.old) (K.faults sink.new) }
+    ensures refused { RefusesRows why result (K.held sink.old) (K.held sink.new) (K.faults sink.old) (K.faults sink.new) }
 {
     match why {
         Unread::Bytes => {
@@ -96,7 +96,7 @@ fn refuse<K: Sink>(alloc: Global, sink: &mut K, why: Unread) -> Status
 // Tells what a mount came to.
 fn tell<K: Sink>(alloc: Global, sink: &mut K, rows: &[Row], answers: &Answers) -> Status
     ensures later { K.faults sink.old ≤ K.faults sink.new }
-    ensures told { TellsWork rows.now (seen answers.now) result (K.held sink.old) (K.held sink.new) (K.faults sink.old) (K.faults sink.new) }
+    ensures told { TellsWork rows.now (given_of answers.now) result (K.held sink.old) (K.held sink.new) (K.faults sink.old) (K.faults sink.new) }
 {
     match &answers.last {
         Ok(last) => {
@@ -137,7 +137,7 @@ fn write_behind<K: Sink>(
 ) -> Status
     ensures later { K.faults sink.old ≤ K.faults sink.new }
     ensures written { (text : List ℕ) → 0 < length text → IfOk line (λ made. made.items ≡ text)
-        → WroteAs (came_text rows.now (seen answers.now).0 (seen answers.now).1 ++ text) status result (K.held sink.old) (K.held sink.new) (K.faults sink.old) (K.faults sink.new) }
+        → WroteAs (came_text rows.now (given_of answers.now).0 (given_of answers.now).1 ++ text) status result (K.held sink.old) (K.held sink.new) (K.faults sink.old) (K.faults sink.new) }
 {
     if let Err(fault) = write_came(alloc, sink, rows, answers) {
         return ended_by(status, Err(fault));

@@ -6,7 +6,7 @@ ghost use Rattle.ec_text.specs.Answers.{answered_text};
 ghost use Rattle.ec_text.specs.Lines.{shown_text};
 ghost use Rattle.ec_mount.specs.Shown.{row_text, answers_text, lanes_text, told_text, end_text, came_text, old_boot_text, peer_text};
 ghost use Rattle.ec_mount.specs.Script.{rows_of};
-ghost use Rattle.ec_mount.specs.Work.{seen};
+ghost use Rattle.ec_mount.specs.Work.{given_of};
 ghost use Rattle.ec_mount.specs.Writes.{Wrote};
 
 use crate::script::Row;
@@ -177,7 +177,7 @@ pub fn write_came<K: Sink>(
     answers: &Answers,
 ) -> Result<(), WriteFault>
     ensures later { K.faults sink.old ≤ K.faults sink.new }
-    ensures written { Wrote (came_text rows.now (seen answers.now).0 (seen answers.now).1) (K.held sink.old) (K.held sink.new) (K.faults sink.old) (K.faults sink.new) result }
+    ensures written { Wrote (came_text rows.now (given_of answers.now).0 (given_of answers.now).1) (K.held sink.old) (K.held sink.new) (K.faults sink.old) (K.faults sink.new) result }
 {
     write_lanes(alloc, sink, rows, &answers.lanes)?;
     write_told(alloc, sink, &answers.told)

@@ -1,7 +1,7 @@
 // A mounted clerk: it's started, run over a link of the net, and ended.
 ghost use Rattle.std.specs.Prelude.{◌≡◌, ◌≤◌, ◌+◌, [], Err, IfSome};
 ghost use Rattle.ec_clerknode.specs.LaneRuns.{lists_of};
-ghost use Rattle.ec_mount.specs.Work.{RunsOver, WorksOver, Works, Concludes, last_of, seen};
+ghost use Rattle.ec_mount.specs.Work.{RunsOver, WorksOver, Works, Concludes, last_answer as last_of, given_of};
 
 use crate::calls::Replies;
 use crate::linked::{LINKER, make_linked};
@@ -29,7 +29,7 @@ pub struct Answers {
 
 // Nothing was answered.
 fn none(alloc: Global, fault: NodeFault) -> Answers
-    ensures { seen result ≡ ([], [], Err fault) }
+    ensures { given_of result ≡ ([], [], Err fault) }
 {
     Answers {
         lanes: Vec::new(alloc),
@@ -42,7 +42,7 @@ fn none(alloc: Global, fault: NodeFault) -> Answers
 // What the whole list tells decides over what the calls met.
 fn conclude<L: Link + Drop>(closing: Closing<L>, made: Replies) -> (L, Answers)
     ensures link { result.0 ≡ closing.link }
-    ensures result { Concludes closing.clerk closing.told.items closing.boot (lists_of made.lanes) made.last (seen result.1) }
+    ensures result { Concludes closing.clerk closing.told.items closing.boot (lists_of made.lanes) made.last (given_of result.1) }
 {
     let Closing {
         clerk,
@@ -111,7 +111,7 @@ fn run_over<N: Net, R: Around + Eprint>(
         (record { counts = N.Link.faults r.0 + N.Link.closes r.0; given = N.Link.given r.0; got = N.Link.got r.0 })
         (record { faults = N.faults net.old; bad = N.bad net.old; ended = N.ended net.old })
         (record { faults = N.faults net.new; bad = N.bad net.new; ended = N.ended net.new })
-        (seen r.1)) }
+        (given_of r.1)) }
 {
     let Ok((shared, pass)) = SharedClerk::linked_by(alloc, clerk, link, bell, Some(LINKER)) else {
         return None;
@@ -140,7 +140,7 @@ fn work_over<N: Net, R: Around + Eprint>(
         (record { counts = N.Link.faults r.0 + N.Link.closes r.0; given = N.Link.given r.0; got = N.Link.got r.0 })
         (record { faults = N.faults net.old; bad = N.bad net.old; ended = N.ended net.old })
         (record { faults = N.faults net.new; bad = N.bad net.new; ended = N.ended net.new })
-        (seen r.1)) }
+        (given_of r.1)) }
 {
     let mut link = link;
     let bell = match link.bell(rt) {
@@ -180,7 +180,7 @@ pub fn work<N: Net, R: Around + Eprint>(
     ensures works { Works who.now.clerk boot lanes.items
         (record { faults = N.faults net.old; bad = N.bad net.old; ended = N.ended net.old })
         (record { faults = N.faults net.new; bad = N.bad net.new; ended = N.ended net.new })
-        (seen result) }
+        (given_of result) }
 {
     let alloc = rt.alloc();
     let (clerk, outs) = match Clerk::start(alloc, who.clerk, boot) {

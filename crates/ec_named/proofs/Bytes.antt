@@ -13,7 +13,7 @@ use Rattle.ec_history.specs.declared.shown.Shown.TheVariants as show
 use Rattle.ec_text.specs.Lines.{shown_text, text_of}
 use Rattle.ec_lawful.specs.Headline.{IsGreatest}
 use Rattle.ec_promise.specs.Left.{SaysWhy}
-use Rattle.ec_drill.specs.Cuts.{IsFront, IsPartOf}
+use Rattle.ec_drill.specs.Cuts.{IsCutFront, IsPartOf}
 use Rattle.ec_drill.specs.Drill.{RefusedInPart}
 use Rattle.ec_named.specs.Forms.{outside}
 use Rattle.ec_named.specs.Seen.{Stream, Store}
@@ -78,7 +78,7 @@ module _ (result : ℕ) (source sink : Stream) (store : Store) where
     bars = tt;
   }
     where
-      front : (r.last ≡ []) ⊎ IsFront (shown_text r.line) r.last → IsPart r.last
+      front : (r.last ≡ []) ⊎ IsCutFront (shown_text r.line) r.last → IsPart r.last
       front (inl e) = inl e
       front (inr f) = inr (r.line, f)
 

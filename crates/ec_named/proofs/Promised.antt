@@ -22,7 +22,7 @@ use Rattle.ec_promise.proofs.Lawful.{drills-lawful}
 use Rattle.ec_promise.proofs.Rooms.{drills-told}
 use Rattle.ec_promise.proofs.Spent.{drills-spent}
 use Rattle.ec_echo.specs.Echo.{Links}
-use Rattle.ec_echo.specs.Forms.{Does, Echoes}
+use Rattle.ec_echo.specs.Forms.{DoesForm, Echoes}
 use Rattle.ec_gen.specs.Generator.{script_of}
 use Rattle.ec_drill.specs.Limits.{most_objects}
 use Rattle.ec_echo.specs.Made.{made_lines}
@@ -52,9 +52,9 @@ use Rattle.ec_named.proofs.Words.{spells-once}
 abbrev pub Did : ℕ → List (List ℕ) → ℕ → Outside → Links → Type 0
 Did boot words result w n = (st : Status) × (result ≡ code st) × Echoes boot words st w n
 
-does-of : (boot : ℕ) (words : List (List ℕ)) (st : Status) (w : Outside) (n : Links) → Echoes boot words st w n → (c : Command) → Spells words c → Does boot c st w n
+does-of : (boot : ℕ) (words : List (List ℕ)) (st : Status) (w : Outside) (n : Links) → Echoes boot words st w n → (c : Command) → Spells words c → DoesForm boot c st w n
 does-of boot words st w n (inl none) c s = absurd (none.1 c s)
-does-of boot words st w n (inr did) c s = subst (λ (x : Command). Does boot x st w n) (spells-once words did.0 c did.1 s) did.2
+does-of boot words st w n (inr did) c s = subst (λ (x : Command). DoesForm boot x st w n) (spells-once words did.0 c did.1 s) did.2
 
 -- and back
 pub asked : (words : List (List ℕ)) (result : ℕ) → Asks words result → (result ≡ 2) ↔ ((c : Command) → Spells words c → ⊥)

@@ -9,7 +9,7 @@ use Rattle.ec_history.specs.declared.shown.Shown.{Shown}
 use Rattle.ec_history.specs.declared.shown.Shown.TheVariants.{Bad, DiskBad, Limit, Spent}
 use Rattle.ec_text.specs.Lines.{shown_text, text_of}
 use Rattle.ec_lawful.specs.Headline.{IsGreatest, placed_on}
-use Rattle.ec_drill.specs.Cuts.{IsFront}
+use Rattle.ec_drill.specs.Cuts.{IsCutFront}
 use Rattle.ec_drill.specs.Fates.{IsKnown}
 use Rattle.ec_named.specs.Seen.{Stream, Store, IsNew}
 
@@ -23,7 +23,7 @@ EndsEarly _ = ⊥
 
 -- nothing, or a front of a line that wasn't written whole
 abbrev pub IsPart : List ℕ → Type 0
-IsPart part = (part ≡ []) ⊎ ((s : Shown) × IsFront (shown_text s) part)
+IsPart part = (part ≡ []) ⊎ ((s : Shown) × IsCutFront (shown_text s) part)
 
 -- These lines were written, then at most one that says why the drill ended early, and then, with status 5 or 9 alone, perhaps a part of one.
 pub record Wrote (result : ℕ) (sink : Stream) (told : List Shown) : Type 0 where

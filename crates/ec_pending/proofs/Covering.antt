@@ -16,7 +16,7 @@ use Rattle.ec_chains.specs.declared.closure.Ask.{Ask}
 use Rattle.ec_pending.specs.declared.issue.Issue.{Issue}
 use Rattle.ec_pending.proofs.Holding.{Known, known, issues-of}
 use Rattle.ec_pending.proofs.Leaving.{left-are, numbers-are, taken-walk}
-use Rattle.ec_pending.specs.Pending.{numbers_in, taken, rest, issue_at, issues, is_early, AreRising, IsPart}
+use Rattle.ec_pending.specs.Pending.{numbers_in, picked_out, rest, issue_at, issues, is_early, AreRising, IsPart}
 use Rattle.ec_base.proofs.Options.{one_entry}
 
 -- What is taken at once is what is taken in two goes: first some that are asked, and then the others.
@@ -67,7 +67,7 @@ module _ (p q : Issue → Bool) where
   rest-of i left all false false false true h e = e
   rest-of i left all false false false false h e = ap (λ l. i ∷ l) e
 
-  taken-either : (t : Bool) (i : Issue) (is : List Issue) → taken p (cond t is (i ∷ is)) ≡ cond t (taken p is) (taken p (i ∷ is))
+  taken-either : (t : Bool) (i : Issue) (is : List Issue) → picked_out p (cond t is (i ∷ is)) ≡ cond t (picked_out p is) (picked_out p (i ∷ is))
   taken-either true i is = refl
   taken-either false i is = refl
 
@@ -75,18 +75,18 @@ module _ (p q : Issue → Bool) where
   rest-either true i is = refl
   rest-either false i is = refl
 
-  any-taken : (is : List Issue) → AreAsked is → (f : Issue → Bool) → list_any f (taken p is) ≡ (list_any f (taken q is) || list_any f (taken p (rest q is)))
+  any-taken : (is : List Issue) → AreAsked is → (f : Issue → Bool) → list_any f (picked_out p is) ≡ (list_any f (picked_out q is) || list_any f (picked_out p (rest q is)))
   any-taken [] h f = refl
   any-taken (i ∷ is) h f =
-      ap (λ z. list_any f (cond (p i || z) (i ∷ taken p is) (taken p is))) (any-taken is h.1 (λ j. needs i.update j.update))
-      ∙ any-of f i (taken p is) (taken q is) (taken p (rest q is)) (q i) (list_any (λ j. needs i.update j.update) (taken q is)) (p i) (list_any (λ j. needs i.update j.update) (taken p (rest q is))) h.0 (any-taken is h.1 f)
-      ∙ ap (λ l. list_any f (taken q (i ∷ is)) || list_any f l) (sym (taken-either (q i || list_any (λ j. needs i.update j.update) (taken q is)) i (rest q is)))
+      ap (λ z. list_any f (cond (p i || z) (i ∷ picked_out p is) (picked_out p is))) (any-taken is h.1 (λ j. needs i.update j.update))
+      ∙ any-of f i (picked_out p is) (picked_out q is) (picked_out p (rest q is)) (q i) (list_any (λ j. needs i.update j.update) (picked_out q is)) (p i) (list_any (λ j. needs i.update j.update) (picked_out p (rest q is))) h.0 (any-taken is h.1 f)
+      ∙ ap (λ l. list_any f (picked_out q (i ∷ is)) || list_any f l) (sym (taken-either (q i || list_any (λ j. needs i.update j.update) (picked_out q is)) i (rest q is)))
 
   pub rest-rest : (is : List Issue) → AreAsked is → rest p (rest q is) ≡ rest p is
   rest-rest [] h = refl
   rest-rest (i ∷ is) h =
-      rest-either (q i || list_any (λ j. needs i.update j.update) (taken q is)) i (rest q is)
-      ∙ rest-of i (rest p (rest q is)) (rest p is) (q i) (list_any (λ j. needs i.update j.update) (taken q is)) (p i) (list_any (λ j. needs i.update j.update) (taken p (rest q is))) h.0 (rest-rest is h.1)
+      rest-either (q i || list_any (λ j. needs i.update j.update) (picked_out q is)) i (rest q is)
+      ∙ rest-of i (rest p (rest q is)) (rest p is) (q i) (list_any (λ j. needs i.update j.update) (picked_out q is)) (p i) (list_any (λ j. needs i.update j.update) (picked_out p (rest q is))) h.0 (rest-rest is h.1)
       ∙ ap (λ z. cond (p i || z) (rest p is) (i ∷ rest p is)) (sym (any-taken is h.1 (λ j. needs i.update j.update)))
 
 module _ (ps : Table ℕ) (p : Issue → Bool) where
@@ -108,13 +108,13 @@ module _ (ps : Table ℕ) (p : Issue → Bool) where
       ∙ ap (rest p) (left-are ps (λ i. i.number == op) xs s)
       ∙ rest-rest p (λ i. i.number == op) (issues ps xs) (are-asked op xs h)
     where
-      taken-are : numbers_in (taken (λ i. i.number == op) (issues ps xs)) ≡ keys (closure_of_op op xs)
+      taken-are : numbers_in (picked_out (λ i. i.number == op) (issues ps xs)) ≡ keys (closure_of_op op xs)
       taken-are =
           ap numbers_in (taken-walk ps (λ i. i.number == op) (λ x. x.0 == op) xs (λ n u k. refl))
           ∙ numbers-are ps (walk (λ x. x.0 == op) xs)
           ∙ ap keys (walk-closure (λ x. x.0 == op) (λ n. n == op) xs (λ n u k. refl))
 
-  none-taken : (xs : Issued) → ((n : ℕ) (u : Update) → Holds xs n u → p (issue_at ps (n, u)) ≡ false) → taken p (issues ps xs) ≡ []
+  none-taken : (xs : Issued) → ((n : ℕ) (u : Update) → Holds xs n u → p (issue_at ps (n, u)) ≡ false) → picked_out p (issues ps xs) ≡ []
   none-taken [] h = refl
   none-taken (x ∷ xs) h =
       ap (λ l. cond (p (issue_at ps x) || list_any (λ j. needs x.1 j.update) l) (issue_at ps x ∷ l) l) (none-taken xs (λ n u k. h n u (inr k)))

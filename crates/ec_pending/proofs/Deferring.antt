@@ -12,11 +12,11 @@ use Rattle.ec_pending.specs.declared.asked.Asked.TheVariants as asks
 use Rattle.ec_pending.specs.declared.issue.Issue.{Issue}
 use Rattle.ec_pending.specs.declared.note.Note.{Note}
 use Rattle.ec_pending.specs.declared.note.Note.TheVariants as note
-use Rattle.ec_pending.specs.Pending.{is_asked, rest, taken}
-use Rattle.ec_pending.specs.Deferred.{behind, next_of, above_next, AreAbove}
+use Rattle.ec_pending.specs.Pending.{is_asked, rest, picked_out}
+use Rattle.ec_pending.specs.Deferred.{behind_notes, next_of, above_next, AreAbove}
 
 -- one note more
-pub behind-more : (ns : List Note) (n : Note) (is : List Issue) → behind (ns ++ n ∷ []) is ≡ next_of n (behind ns is)
+pub behind-more : (ns : List Note) (n : Note) (is : List Issue) → behind_notes (ns ++ n ∷ []) is ≡ next_of n (behind_notes ns is)
 behind-more [] n is = refl
 behind-more (m ∷ ns) n is = behind-more ns n (next_of m is)
 
@@ -44,7 +44,7 @@ pair n is = (n, is)
 pub with-rest : (v : ℕ × List Issue) (is : List Issue) → is ≡ v.1 → v ≡ pair v.0 is
 with-rest v is e = ap (pair v.0) (sym e)
 
-none-taken : (is : List Issue) → taken (is_asked asks.Nothing) is ≡ []
+none-taken : (is : List Issue) → picked_out (is_asked asks.Nothing) is ≡ []
 none-taken [] = refl
 none-taken (i ∷ is) = ap (λ l. cond (list_any (λ j. needs i.update j.update) l) (i ∷ l) l) (none-taken is)
 

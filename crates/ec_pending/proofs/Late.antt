@@ -8,7 +8,7 @@ use Rattle.ec_pending.specs.declared.issue.Issue.{Issue}
 use Rattle.ec_pending.specs.declared.note.Note.{Note}
 use Rattle.ec_pending.specs.declared.note.Note.TheVariants as note
 use Rattle.ec_pending.specs.Pending.{numbers_in}
-use Rattle.ec_pending.specs.Deferred.{behind, next_of, is_issue, asks_nothing, AreLate}
+use Rattle.ec_pending.specs.Deferred.{behind_notes, next_of, is_issue, asks_nothing, AreLate}
 use Rattle.ec_base.proofs.Bools.{or_true}
 
 -- one from a place on passes the test
@@ -31,33 +31,33 @@ more-in : (op : ℕ) (is : List Issue) (i : Issue) → member op (numbers_in is)
 more-in op [] i h = absurd (false≢true h)
 more-in op (j ∷ is) i h = either (op == j.number) (member op (numbers_in is)) (member op (numbers_in (is ++ i ∷ []))) h (more-in op is i)
 
-stays : (op : ℕ) (ns : List Note) (is : List Issue) → T (list_all asks_nothing ns) → member op (numbers_in is) ≡ true → member op (numbers_in (behind ns is)) ≡ true
+stays : (op : ℕ) (ns : List Note) (is : List Issue) → T (list_all asks_nothing ns) → member op (numbers_in is) ≡ true → member op (numbers_in (behind_notes ns is)) ≡ true
 stays op [] is a h = h
 stays op (note.Issue n p u ∷ ns) is a h = stays op ns (next_of (note.Issue n p u) is) a (more-in op is (record { number = n; place = p; update = u.value }) h)
 stays op (note.Cover c ∷ ns) is a h = absurd a
 
-found : (op : ℕ) (ns : List Note) (is : List Issue) → T (list_all asks_nothing ns) → list_any (is_issue op) ns ≡ true → member op (numbers_in (behind ns is)) ≡ true
+found : (op : ℕ) (ns : List Note) (is : List Issue) → T (list_all asks_nothing ns) → list_any (is_issue op) ns ≡ true → member op (numbers_in (behind_notes ns is)) ≡ true
 found op [] is a f = absurd (false≢true f)
 found op (note.Issue n p u ∷ ns) is a f = go (op == n) refl f (found op ns (next_of (note.Issue n p u) is) a)
   where
     one : Issue
     one = record { number = n; place = p; update = u.value }
 
-    go : (b : Bool) → (op == n) ≡ b → (b || list_any (is_issue op) ns) ≡ true → (list_any (is_issue op) ns ≡ true → member op (numbers_in (behind ns (is ++ one ∷ []))) ≡ true) → member op (numbers_in (behind ns (is ++ one ∷ []))) ≡ true
+    go : (b : Bool) → (op == n) ≡ b → (b || list_any (is_issue op) ns) ≡ true → (list_any (is_issue op) ns ≡ true → member op (numbers_in (behind_notes ns (is ++ one ∷ []))) ≡ true) → member op (numbers_in (behind_notes ns (is ++ one ∷ []))) ≡ true
     go true e f r = stays op ns (is ++ one ∷ []) a (last-in op is one e)
     go false e f r = r f
 found op (note.Cover c ∷ ns) is a f = absurd a
 
-behind-append : (ns ms : List Note) (is : List Issue) → behind (ns ++ ms) is ≡ behind ms (behind ns is)
+behind-append : (ns ms : List Note) (is : List Issue) → behind_notes (ns ++ ms) is ≡ behind_notes ms (behind_notes ns is)
 behind-append [] ms is = refl
 behind-append (n ∷ ns) ms is = behind-append ns ms (next_of n is)
 
 -- they are pending
-pub late-pending : (op late : ℕ) (ns : List Note) (is : List Issue) → AreLate late ns → list_any (is_issue op) (drop late ns) ≡ true → member op (numbers_in (behind ns is)) ≡ true
+pub late-pending : (op late : ℕ) (ns : List Note) (is : List Issue) → AreLate late ns → list_any (is_issue op) (drop late ns) ≡ true → member op (numbers_in (behind_notes ns is)) ≡ true
 late-pending op late ns is h f =
-    ap (λ ms. member op (numbers_in (behind ms is))) (sym (take-append-drop late ns))
+    ap (λ ms. member op (numbers_in (behind_notes ms is))) (sym (take-append-drop late ns))
     ∙ ap (λ js. member op (numbers_in js)) (behind-append (take late ns) (drop late ns) is)
-    ∙ found op (drop late ns) (behind (take late ns) is) h.issues f
+    ∙ found op (drop late ns) (behind_notes (take late ns) is) h.issues f
 
 both : (b c d : Bool) → T (b && c) → (T c → T d) → T (b && d)
 both true c d t f = f t

@@ -11,22 +11,22 @@ use Rattle.ec_chains.specs.SlotLaws.{live-next}
 use Rattle.ec_chains.specs.Slots.{Slots, with_one, live}
 use Rattle.ec_needed.proofs.Needs.{nothing_needed}
 use Rattle.ec_pending.specs.declared.issue.Issue.{Issue}
-use Rattle.ec_pending.specs.Pending.{numbers_in, taken, issue_at, issues}
+use Rattle.ec_pending.specs.Pending.{numbers_in, picked_out, issue_at, issues}
 
 module _ (ps : Table ℕ) (p : Issue → Bool) (ss : Slots) where
   -- the places from this one on are walked over: these numbers were found, from the last on, and the maps tell what they need
   pub record Walked (at : ℕ) (ops : List ℕ) (others : Others) (ranges : Ranges) : Type 0 where
     pub within : at ≤ length ss
-    pub found : reverse ops ≡ numbers_in (taken p (issues ps (live (drop at ss))))
-    pub needed : (x : Update) → is_needed others ranges x ≡ list_any (λ j. needs x j.update) (taken p (issues ps (live (drop at ss))))
+    pub found : reverse ops ≡ numbers_in (picked_out p (issues ps (live (drop at ss))))
+    pub needed : (x : Update) → is_needed others ranges x ≡ list_any (λ j. needs x j.update) (picked_out p (issues ps (live (drop at ss))))
 
   pub walk-begins : (ops : List ℕ) (others : Others) (ranges : Ranges) → ops ≡ [] → others ≡ [] → ranges ≡ [] → Walked (length ss) ops others ranges
   walk-begins ops others ranges a b c =
       let none : drop (length ss) ss ≡ [] = drop_all (length ss) ss (omega arith) in
       record {
         within = omega arith;
-        found = ap reverse a ∙ ap (λ l. numbers_in (taken p (issues ps (live l)))) (sym none);
-        needed = λ x. ap (λ m. is_needed m ranges x) b ∙ ap (λ m. is_needed [] m x) c ∙ nothing_needed x ∙ ap (λ l. list_any (λ j. needs x j.update) (taken p (issues ps (live l)))) (sym none);
+        found = ap reverse a ∙ ap (λ l. numbers_in (picked_out p (issues ps (live l)))) (sym none);
+        needed = λ x. ap (λ m. is_needed m ranges x) b ∙ ap (λ m. is_needed [] m x) c ∙ nothing_needed x ∙ ap (λ l. list_any (λ j. needs x j.update) (picked_out p (issues ps (live l)))) (sym none);
       }
 
   module _ (at : ℕ) (ops : List ℕ) (others : Others) (ranges : Ranges) (w : Walked at ops others ranges) (x : ℕ × Option Update) (some : 0 < at) (is : x ≡ get_or ss (at - 1) x) where
@@ -44,17 +44,17 @@ module _ (ps : Table ℕ) (p : Issue → Bool) (ss : Slots) where
         let same : live (drop (at - 1) ss) ≡ live (drop at ss) = back ∙ ap (λ o. with_one x.0 o (live (drop at ss))) e in
         record {
           within = lower;
-          found = w.found ∙ sym (ap (λ l. numbers_in (taken p (issues ps l))) same);
-          needed = λ z. w.needed z ∙ sym (ap (λ l. list_any (λ j. needs z j.update) (taken p (issues ps l))) same);
+          found = w.found ∙ sym (ap (λ l. numbers_in (picked_out p (issues ps l))) same);
+          needed = λ z. w.needed z ∙ sym (ap (λ l. list_any (λ j. needs z j.update) (picked_out p (issues ps l))) same);
         }
 
     module _ (u : Update) (held : x.1 ≡ Some u) where
       by-test : (b : Bool) → (p (issue_at ps (x.0, u)) || is_needed others ranges u) ≡ b
-          → taken p (issues ps (live (drop (at - 1) ss))) ≡ cond b (issue_at ps (x.0, u) ∷ taken p (issues ps (live (drop at ss)))) (taken p (issues ps (live (drop at ss))))
+          → picked_out p (issues ps (live (drop (at - 1) ss))) ≡ cond b (issue_at ps (x.0, u) ∷ picked_out p (issues ps (live (drop at ss)))) (picked_out p (issues ps (live (drop at ss))))
       by-test b e =
-          ap (λ l. taken p (issues ps l)) (back ∙ ap (λ o. with_one x.0 o (live (drop at ss))) held)
-          ∙ ap (λ t. cond (p (issue_at ps (x.0, u)) || t) (issue_at ps (x.0, u) ∷ taken p (issues ps (live (drop at ss)))) (taken p (issues ps (live (drop at ss))))) (sym (w.needed u))
-          ∙ ap (λ t. cond t (issue_at ps (x.0, u) ∷ taken p (issues ps (live (drop at ss)))) (taken p (issues ps (live (drop at ss))))) e
+          ap (λ l. picked_out p (issues ps l)) (back ∙ ap (λ o. with_one x.0 o (live (drop at ss))) held)
+          ∙ ap (λ t. cond (p (issue_at ps (x.0, u)) || t) (issue_at ps (x.0, u) ∷ picked_out p (issues ps (live (drop at ss)))) (picked_out p (issues ps (live (drop at ss))))) (sym (w.needed u))
+          ∙ ap (λ t. cond t (issue_at ps (x.0, u) ∷ picked_out p (issues ps (live (drop at ss)))) (picked_out p (issues ps (live (drop at ss))))) e
 
       pub walk-takes : (p (issue_at ps (x.0, u)) || is_needed others ranges u) ≡ true → (ops' : List ℕ) (others' : Others) (ranges' : Ranges) → ops' ≡ ops ++ x.0 ∷ []
           → ((z : Update) → is_needed others' ranges' z ≡ (needs z u || is_needed others ranges z)) → Walked (at - 1) ops' others' ranges'
@@ -71,8 +71,8 @@ module _ (ps : Table ℕ) (p : Issue → Bool) (ss : Slots) where
         needed = λ z. w.needed z ∙ sym (ap (list_any (λ j. needs z j.update)) (by-test false e));
       }
 
-  pub walk-ends : (at : ℕ) (ops : List ℕ) (others : Others) (ranges : Ranges) → Walked at ops others ranges → at ≤ 0 → reverse ops ≡ numbers_in (taken p (issues ps (live ss)))
-  walk-ends at ops others ranges w e = w.found ∙ ap (λ n. numbers_in (taken p (issues ps (live (drop n ss))))) (none at e)
+  pub walk-ends : (at : ℕ) (ops : List ℕ) (others : Others) (ranges : Ranges) → Walked at ops others ranges → at ≤ 0 → reverse ops ≡ numbers_in (picked_out p (issues ps (live ss)))
+  walk-ends at ops others ranges w e = w.found ∙ ap (λ n. numbers_in (picked_out p (issues ps (live (drop n ss))))) (none at e)
     where
       none : (n : ℕ) → n ≤ 0 → n ≡ 0
       none n e = omega (arith, e)

@@ -12,9 +12,9 @@ next_of (note.Issue n p u) is = is ++ record { number = n; place = p; update = u
 next_of (note.Cover a) is = rest (is_asked a) is
 
 -- the pending operations behind some notes
-abbrev pub behind : List Note → List Issue → List Issue
-behind [] is = is
-behind (n ∷ ns) is = behind ns (next_of n is)
+abbrev pub behind_notes : List Note → List Issue → List Issue
+behind_notes [] is = is
+behind_notes (n ∷ ns) is = behind_notes ns (next_of n is)
 
 -- the note is of an operation of this number
 abbrev pub is_issue : ℕ → Note → Bool

@@ -37,14 +37,14 @@ is_asked (asks.On o begun) i = nat_le i.place begun && has_operand o i.update
 is_asked (asks.All begun) i = nat_le i.place begun
 
 -- One by one from the last to the first: those that pass the test, and those that a later one of them needs.
-abbrev pub taken : (Issue → Bool) → List Issue → List Issue
-taken p [] = []
-taken p (i ∷ is) = if p i || list_any (λ j. needs i.update j.update) (taken p is) then i ∷ taken p is else taken p is
+abbrev pub picked_out : (Issue → Bool) → List Issue → List Issue
+picked_out p [] = []
+picked_out p (i ∷ is) = if p i || list_any (λ j. needs i.update j.update) (picked_out p is) then i ∷ picked_out p is else picked_out p is
 
 -- the others
 abbrev pub rest : (Issue → Bool) → List Issue → List Issue
 rest p [] = []
-rest p (i ∷ is) = if p i || list_any (λ j. needs i.update j.update) (taken p is) then rest p is else i ∷ rest p is
+rest p (i ∷ is) = if p i || list_any (λ j. needs i.update j.update) (picked_out p is) then rest p is else i ∷ rest p is
 
 -- How they are held: by their numbers, with a table of the places.
 

@@ -3,7 +3,7 @@ ghost use Rattle.std.specs.Prelude.{◌≡◌, ◌||◌, ℕ, IfOk};
 ghost use Rattle.ec_base.specs.Tables.{at_or};
 ghost use Rattle.ec_needed.specs.Needed.{is_needed};
 ghost use Rattle.ec_chains.specs.Slots.{live};
-ghost use Rattle.ec_pending.specs.Pending.{is_asked, issues, numbers_in, taken};
+ghost use Rattle.ec_pending.specs.Pending.{is_asked, issues, numbers_in, picked_out};
 
 use crate::asked::{Asked, is_asked};
 use ec_base::{NoMemory, OpNo, SortedMap};
@@ -19,7 +19,7 @@ pub fn closed(
     places: &SortedMap<OpNo, u32>,
     asked: &Asked,
 ) -> Result<Vec<OpNo>, NoMemory>
-    ensures { IfOk result (λ ops. ops.items ≡ numbers_in (taken (is_asked asked.now) (issues places.now (live held.now)))) }
+    ensures { IfOk result (λ ops. ops.items ≡ numbers_in (picked_out (is_asked asked.now) (issues places.now (live held.now)))) }
 {
     let mut needed = Needed::new(alloc);
     let mut ops = Vec::new(alloc);

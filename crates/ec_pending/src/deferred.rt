@@ -3,7 +3,7 @@ ghost use Rattle.std.specs.Prelude.{◌≡◌, ◌≤◌, ◌<◌, ◌++◌, [],
 ghost use Rattle.std.specs.List.{list_any};
 ghost use Rattle.ec_volume.specs.Update.{member};
 ghost use Rattle.ec_pending.specs.Pending.{is_asked, issues_of, numbers_in, rest};
-ghost use Rattle.ec_pending.specs.Deferred.{behind, next_of, above_next, is_issue, AreAbove, IsAbove};
+ghost use Rattle.ec_pending.specs.Deferred.{behind_notes, next_of, above_next, is_issue, AreAbove, IsAbove};
 
 use crate::asked::Asked;
 use crate::note::Note;
@@ -32,13 +32,13 @@ impl Model for Deferred {
     ghost use Rattle.std.specs.Coded.{coded_list, coded×, coded_ℕ};
     ghost use Rattle.ec_pending.specs.contracts.issue.Issue as issue;
     ghost use Rattle.ec_pending.specs.declared.issue.Issue.{Issue};
-    ghost use Rattle.ec_pending.specs.Deferred.{behind, AreAbove, AreLate};
+    ghost use Rattle.ec_pending.specs.Deferred.{behind_notes, AreAbove, AreLate};
 
     ghost Value = { ℕ × List Issue };
 
     ghost coded = { coded× coded_ℕ (coded_list issue.the_row.coded) };
 
-    ghost view = { λ d. (d.count, behind d.notes.items d.pending.1) };
+    ghost view = { λ d. (d.count, behind_notes d.notes.items d.pending.1) };
 
     ghost invariant = { λ d. AreAbove d.count d.pending.0 d.notes.items × AreLate d.late d.notes.items };
 }
@@ -130,7 +130,7 @@ fn is_late(notes: &[Note], late: usize, count: u64, op: OpNo) -> bool
 fn follow_all(pending: &mut Pending, notes: Vec<Note>, count: u64) -> Result<(), NoMemory>
     requires { AreAbove count pending.old.0 notes.items }
     ensures count { pending.new.0 ≤ count }
-    ensures pending { OnOk result (pending.new.1 ≡ behind notes.items pending.old.1) }
+    ensures pending { OnOk result (pending.new.1 ≡ behind_notes notes.items pending.old.1) }
 {
     let mut left = notes;
     left.reverse();
@@ -141,7 +141,7 @@ fn follow_all(pending: &mut Pending, notes: Vec<Note>, count: u64) -> Result<(),
 fn follow_back(pending: &mut Pending, notes: Vec<Note>, count: u64) -> Result<(), NoMemory>
     requires { AreAbove count pending.old.0 (reverse notes.items) }
     ensures count { pending.new.0 ≤ count }
-    ensures pending { OnOk result (pending.new.1 ≡ behind (reverse notes.items) pending.old.1) }
+    ensures pending { OnOk result (pending.new.1 ≡ behind_notes (reverse notes.items) pending.old.1) }
 {
     let mut left = notes;
     'each: while let Some(note) = left.pop() {

@@ -4,7 +4,7 @@ ghost use Rattle.std.specs.Ordering.{nat_cmp};
 ghost use Rattle.std.specs.FinMap.{is_sorted};
 ghost use Rattle.ec_base.specs.Tables.{at_or, put};
 ghost use Rattle.ec_volume.specs.Update.{member, operands};
-ghost use Rattle.ec_pending.specs.Pending.{is_asked, issues_of, numbered, numbers_in, rest, taken};
+ghost use Rattle.ec_pending.specs.Pending.{is_asked, issues_of, numbered, numbers_in, rest, picked_out};
 
 use crate::asked::Asked;
 use crate::closed::closed;
@@ -130,7 +130,7 @@ impl Pending {
     // The numbers of those that are asked, and of those that they need. Those on an object are found by
     // its chain, unless one on it was issued behind what is asked.
     fn covered(&self, asked: &Asked) -> Result<Vec<OpNo>, NoMemory>
-        ensures ops { IfOk result (λ ops. ops.items ≡ numbers_in (taken (is_asked asked.now) self.now.1)) }
+        ensures ops { IfOk result (λ ops. ops.items ≡ numbers_in (picked_out (is_asked asked.now) self.now.1)) }
         ensures sorted { T (is_sorted nat_cmp (numbered self.now.1)) }
     {
         let held = self.order.slots();

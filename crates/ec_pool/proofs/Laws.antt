@@ -16,7 +16,7 @@ use Rattle.ec_protocol.specs.World.{kept_messages}
 use Rattle.ec_protocol.specs.World as machine
 use Rattle.ec_protocol.specs.declared.world.WorldFault.TheVariants as fault
 use Rattle.ec_pool.specs.Pools.{Pooled, with_pool, made_pending, Stands}
-use Rattle.ec_pool.specs.Insides.{AreUpTo, link_of, link_to, AreLinked, stays, Holds, Forgets, passes, CountsAt, CountsNew}
+use Rattle.ec_pool.specs.Insides.{AreUpTo, link_of, link_to, AreLinked, stays, HoldsSent as Holds, Forgets, passes, CountsAt, CountsNew}
 use Rattle.ec_pool.specs.declared.links.Link.{Link}
 use Rattle.ec_pool.proofs.Lists as lists
 use Rattle.ec_wire.specs.RowLaws.{key_of}

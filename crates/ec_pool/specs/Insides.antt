@@ -30,7 +30,7 @@ AreLinked es ps = AllByRecursion (λ p. link_to (at p.0 es) ≡ Some p.1) ps
 abbrev pub stays : ℕ → Table Link → ℕ → Bool
 stays sent ps n = nat_lt sent (n + kept_messages) || is_some (at n ps)
 
-pub record Holds (sent : ℕ) (counts : List ((ℕ × MsgKind) × ℕ)) (es : Table Sent) (ps : Table Link) (settled : List ℕ) (forgotten room : ℕ) : Type 0 where
+pub record HoldsSent (sent : ℕ) (counts : List ((ℕ × MsgKind) × ℕ)) (es : Table Sent) (ps : Table Link) (settled : List ℕ) (forgotten room : ℕ) : Type 0 where
   pub counted : AreUpTo sent counts
   pub rises : IsStrictlySortedBy nat_cmp (keys es)
   pub within : (n : ℕ) → IsTrue (is_some (at n es)) → n ≤ sent

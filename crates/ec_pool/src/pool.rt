@@ -60,13 +60,13 @@ impl Model for Pool {
     ghost use Rattle.ec_base.specs.Tables.{keys};
     ghost use Rattle.std.specs.Prelude.{vec_capacity};
     ghost use Rattle.ec_pool.specs.Pools.{Pooled};
-    ghost use Rattle.ec_pool.specs.Insides.{Holds};
+    ghost use Rattle.ec_pool.specs.Insides.{HoldsSent};
 
     ghost Value = { Pooled };
 
     ghost view = { λ a. record { sent = a.sent; counts = a.counts.items; pool = a.kept.entries; pending = keys a.pending; cut = a.cut.items } };
 
-    ghost invariant = { λ a. Holds a.sent a.counts.items a.kept.entries a.pending a.settled.items a.forgotten_at (vec_capacity a.settled) };
+    ghost invariant = { λ a. HoldsSent a.sent a.counts.items a.kept.entries a.pending a.settled.items a.forgotten_at (vec_capacity a.settled) };
 }
 
 impl Pool {

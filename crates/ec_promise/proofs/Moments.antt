@@ -29,7 +29,7 @@ use Rattle.ec_lawful.specs.Headline as headline
 use Rattle.ec_lawful.specs.Calls.{AreOf, IsOf}
 use Rattle.ec_lawful.specs.Drills.{lines_in}
 use Rattle.ec_lawful.specs.DrillRuns.{AreFit, Closed, Comes, IsCallIn, IsFit, Sofar}
-use Rattle.ec_lawful.specs.Steps.{Holds}
+use Rattle.ec_lawful.specs.Steps.{HoldsIn}
 use Rattle.ec_lawful.proofs.Drills.{drills-on, runs-on}
 use Rattle.ec_drill.specs.Left.{Moment, behind_lines, in_line, at_end, fates_behind}
 use Rattle.ec_lawful.specs.Reached.{IsInOrder}
@@ -149,7 +149,7 @@ module _ (d : Durable) (wf : WellFormed d) (sixteen : length d.sessions ≡ 16) 
     shown = no-lines d wf sixteen gone start q;
   }
 
-  stored-behind : (w : World) → Holds (F d wf sixteen gone) w → IsStoredIn d w w.shown
+  stored-behind : (w : World) → HoldsIn (F d wf sixteen gone) w → IsStoredIn d w w.shown
   stored-behind w (g, f, st) = stored-in (images d.volume) d.max_objects g f w st d refl refl top greatest
 
   shows : (w : World) (shown : List Shown) → w.shown ≡ shown → IsStoredIn d w w.shown → IsStoredIn d w shown

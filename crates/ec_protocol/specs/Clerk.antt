@@ -215,10 +215,10 @@ verdict c k = evaluate k.cache k.owed c (first_id k.ids)
 abbrev pub answer_with : Waiting → Answer → Option ℕ → List ℕ → Doing → Tried
 answer_with w a op xs d = Answered (emit (out.Answer w.no a op) (with_cache (cache.all_used xs) d))
 
-abbrev pub last_of : List ℕ → Option ℕ
-last_of [] = None
-last_of (x ∷ []) = Some x
-last_of (x ∷ y ∷ xs) = last_of (y ∷ xs)
+abbrev pub last_number : List ℕ → Option ℕ
+last_number [] = None
+last_number (x ∷ []) = Some x
+last_number (x ∷ y ∷ xs) = last_number (y ∷ xs)
 
 abbrev pub is_ok : Reply → Bool
 is_ok reply.Ok = true
@@ -230,7 +230,7 @@ on_object (Some x) = Some (Object x)
 
 -- what an fsync waits for, on the object that its path reached, and a sync
 abbrev pub awaited : Call → Outcome → Option Asked
-awaited (call.Fsync p) o = elim (is_ok o.reply) [ true ↦ on_object (last_of o.touched) | false ↦ None ]
+awaited (call.Fsync p) o = elim (is_ok o.reply) [ true ↦ on_object (last_number o.touched) | false ↦ None ]
 awaited call.Sync o = Some All
 awaited _ o = None
 

@@ -38,8 +38,8 @@ closed_gate =
     }
 
 -- the server stops behind the record of an fsync, and the restart finds it
-abbrev pub open_gate : Run
-open_gate =
+abbrev pub behind_open_gate : Run
+behind_open_gate =
     record {
       lines =
           reads (line.Call A (call.Create (codes "f" ∷ []))) 10

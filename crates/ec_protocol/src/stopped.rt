@@ -1,6 +1,6 @@
 // Scripts in which the server stops.
 ghost use Rattle.ec_protocol.specs.Runs.{Shows};
-ghost use Rattle.ec_protocol.specs.Stopped.{claimed_tokens, closed_gate, ended_behind_restart, found_at_restart, open_gate, two_stops};
+ghost use Rattle.ec_protocol.specs.Stopped.{claimed_tokens, closed_gate, ended_behind_restart, found_at_restart, behind_open_gate, two_stops};
 
 /// The server stops before the record of an fsync is whole, and the batch travels again.
 pub fn shows_closed_gate()
@@ -9,7 +9,7 @@ pub fn shows_closed_gate()
 
 /// The server stops behind the record of an fsync, and the restart finds it.
 pub fn shows_open_gate()
-    ensures { Shows open_gate }
+    ensures { Shows behind_open_gate }
 {}
 
 /// A restart stops too, and the next one comes up.

@@ -14,7 +14,7 @@ use Rattle.ec_coherence.specs.Events.{EventsAgree}
 use Rattle.ec_coherence.specs.Steps.{call_of}
 use Rattle.ec_coherence.proofs.ClerkIn.{start-same}
 use Rattle.ec_coherence.proofs.Tables.{same_some}
-use Rattle.ec_clerk_steps.specs.Calls.{AreApart, Began, CallsAgree, IsOpenCall, StartCalls, has_number}
+use Rattle.ec_clerk_steps.specs.Calls.{HaveDistinctNumbers, Began, CallsAgree, IsOpenCall, StartCalls, has_number}
 use Rattle.ec_clerk_steps.specs.Waits.{AreAtRest, AreInTurn, HasLine, does_wait}
 use Rattle.ec_clerk_steps.specs.CallLaws.{called}
 use Rattle.ec_coherence.specs.Comes.{begun_at}
@@ -27,7 +27,7 @@ use Rattle.ec_base.proofs.Bools.{or-right as or_next, or_first, holds-true as ho
 use Rattle.ec_laws.proofs.BasesAlike.{each-map}
 
 -- one more call, with a greater number
-apart-more : (ws : List Waiting) (v : Waiting) → Each (λ w. (v.no == w.no) ≡ false) ws → AreApart ws → AreApart (ws ++ v ∷ [])
+apart-more : (ws : List Waiting) (v : Waiting) → Each (λ w. (v.no == w.no) ≡ false) ws → HaveDistinctNumbers ws → HaveDistinctNumbers (ws ++ v ∷ [])
 apart-more [] v n a = (tt, tt)
 apart-more (w ∷ ws) v n a = (each-append (λ x. (x.no == w.no) ≡ false) ws (v ∷ []) a.0 (n.0, tt), apart-more ws v n.1 a.1)
 

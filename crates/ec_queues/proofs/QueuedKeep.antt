@@ -12,7 +12,7 @@ use Rattle.ec_coherence.specs.Steps.{doing_in}
 use Rattle.ec_coherence.specs.StandLaws.{lined}
 use Rattle.ec_lawful.specs.Asked.{AsksAgree}
 use Rattle.ec_lawful.specs.Runs.{OfRun}
-use Rattle.ec_lawful.specs.Steps.{IsDone}
+use Rattle.ec_lawful.specs.Steps.{StepIsDone}
 use Rattle.ec_lawful.specs.Ties.{called, waiting}
 use Rattle.ec_lawful.specs.Whole.{Whole}
 use Rattle.ec_lawful.proofs.Agreeing.{steps-stay}
@@ -28,7 +28,7 @@ queued-keep = record {
 }
 
 module _ (v : Images) (most : ℕ) where
-  done-in : (h : System) (c b : ℕ) (d : Doing) → h.origin ≡ v → h.durable.max_objects ≡ most → IsDone Whole h c b d → IsDone (OfRun v most) h c b d
+  done-in : (h : System) (c b : ℕ) (d : Doing) → h.origin ≡ v → h.durable.max_objects ≡ most → StepIsDone Whole h c b d → StepIsDone (OfRun v most) h c b d
   done-in h c b d q r (inl s) = inl s
   done-in h c b d q r (inr (γ, shown, w)) = inr (γ, shown, record { whole = w; origin = q; most_is = r })
 
@@ -52,7 +52,7 @@ module _ (first : ℕ → ℕ) (F : System → Type 0) (queues : QueuesKeep F) w
       go true p = p
       go false p = (steps-stay first (doing_in c b (begin cl k) γ (waiting c l cl false (called c (k.calls + 1) l cl g))) p).others (doing_in c b (begin cl k) γ (called c (k.calls + 1) l cl g)) refl refl refl refl
 
-  done : (h : System) (c b : ℕ) (d : Doing) → ((γ : Ghost) → AsksAgree first (doing_in c b d γ h)) → IsDone F h c b d → IsDone Both h c b d
+  done : (h : System) (c b : ℕ) (d : Doing) → ((γ : Ghost) → AsksAgree first (doing_in c b d γ h)) → StepIsDone F h c b d → StepIsDone Both h c b d
   done h c b d a (inl x) = inl x
   done h c b d a (inr (γ, u, f)) = inr (γ, u, (f, a γ))
 

@@ -11,7 +11,7 @@ use Rattle.ec_coherence.specs.Steps.{doing_in}
 use Rattle.ec_coherence.proofs.ClerkIn.{not-in-it}
 use Rattle.ec_coherence.proofs.Tables.{differs}
 use Rattle.ec_coherence.specs.CommitLaws.{AllAgree}
-use Rattle.ec_coherence.specs.StandLaws.{ClerkStands, GoesOn, IsUnderWay}
+use Rattle.ec_coherence.specs.StandLaws.{ClerkStands, SessionGoesOn, IsUnderWay}
 use Rattle.ec_coherence.proofs.Rests.{rests-stand}
 use Rattle.ec_clerk_steps.specs.Cuts.{CutKnows, CutsAgree}
 use Rattle.ec_clerk_steps.proofs.OutsideChanges.{outside-all}
@@ -36,7 +36,7 @@ module _ (g : System) (all : AllAgree g) (q : CallsAgree g) (rest : AreAtRest g)
   abbrev one : System
   one = with_clerk g c b now calls []
 
-  goes : GoesOn k now
+  goes : SessionGoesOn k now
   goes = record { id = refl; age = refl; session = refl; owed = refl; next = refl }
 
   boot-is : k.age.boot ≡ b

@@ -30,7 +30,7 @@ use Rattle.ec_clerk_steps.proofs.ZerosBehind.{steps-keep}
 use Rattle.ec_lawful.specs.BeginLaws.{HasBegun}
 use Rattle.ec_lawful.specs.Fresh.{FreshAgrees}
 use Rattle.ec_lawful.specs.SettleLaws.{Beside, IsLined, TriesAll}
-use Rattle.ec_lawful.specs.Steps.{IsDone}
+use Rattle.ec_lawful.specs.Steps.{StepIsDone as IsDone}
 use Rattle.ec_lawful.specs.Ties.{called}
 use Rattle.ec_lawful.specs.Whole.{ShowsAll, Whole}
 use Rattle.ec_lawful.proofs.Beginning.{begins}

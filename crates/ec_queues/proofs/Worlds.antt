@@ -70,8 +70,8 @@ may-be w (event.Arm n ch) may = tt
 may-be w event.Restart may = tt
 
 -- Facts that the steps of nodes and queued calls keep hold of each world that is reached.
-module _ (d : Durable) (F : System → Type 0) (keep-all : StepsKeep F) (queues : QueuesKeep F) (opened : (w : World) → open_world d ≡ Ok w → steps.Holds F w) where
-  pub reached-holds : (w : World) → QueuedReached d w → steps.Holds F w
+module _ (d : Durable) (F : System → Type 0) (keep-all : StepsKeep F) (queues : QueuesKeep F) (opened : (w : World) → open_world d ≡ Ok w → steps.HoldsIn F w) where
+  pub reached-holds : (w : World) → QueuedReached d w → steps.HoldsIn F w
   reached-holds _ (opens w q) = opened w q
   reached-holds _ (happens w r fate e may ok) = event-holds F keep-all fate e w (reached-holds w r) may ok
   reached-holds _ (forgets w r) = let h = reached-holds w r in (h.0, h.1, forgotten-stands w h.0 h.2)
@@ -106,7 +106,7 @@ module _ (d : Durable) (wf : WellFormed d) (sixteen : length d.sessions ≡ 16) 
   queues-by : QueuesKeep G
   queues-by = queued-in-run (images d.volume) d.max_objects
 
-  holds : (w : World) → QueuedReached d w → steps.Holds G w
+  holds : (w : World) → QueuedReached d w → steps.HoldsIn G w
   holds = reached-holds d G (kept-by d wf sixteen zero) queues-by (opened-holds d wf sixteen zero)
 
   -- its calls are within their bounds
@@ -133,7 +133,7 @@ module _ (d : Durable) (wf : WellFormed d) (sixteen : length d.sessions ≡ 16) 
   abbrev Both : System → Type 0
   Both g = G g × AsksAgree first g
 
-  opened-both : (w : World) → open_world d ≡ Ok w → steps.Holds Both w
+  opened-both : (w : World) → open_world d ≡ Ok w → steps.HoldsIn Both w
   opened-both w q =
       let st = world-stands d sixteen w q in (
         opened_in d,
@@ -141,8 +141,8 @@ module _ (d : Durable) (wf : WellFormed d) (sixteen : length d.sessions ≡ 16) 
         st,
       )
 
-  both-hold : (w : World) → QueuedReached d w → steps.Holds Both w
+  both-hold : (w : World) → QueuedReached d w → steps.HoldsIn Both w
   both-hold = reached-holds d Both (asks-keep first G (kept-by d wf sixteen zero) (rest (images d.volume) d.max_objects)) (asks-queue first G queues-by) opened-both
 
-  pub queued-hold : (w : World) → QueuedReached d w → steps.Holds (λ g. Whole g × AsksAgree first g) w
+  pub queued-hold : (w : World) → QueuedReached d w → steps.HoldsIn (λ g. Whole g × AsksAgree first g) w
   queued-hold w r = let k = both-hold w r in (k.0, (k.1.0.whole, k.1.1), k.2)

@@ -9,7 +9,7 @@ use Rattle.ec_protocol.specs.declared.world.World.{World}
 use Rattle.ec_lawful.specs.Calls.{EachCall, IsOf}
 
 -- the calls behind a step, and the lines that it shows, are of calls of which P holds
-pub record Adds (P : ℕ → ℕ → Call → Type 0) (w : World) (m : Moving) : Type 0 where
+pub record AddsCalls (P : ℕ → ℕ → Call → Type 0) (w : World) (m : Moving) : Type 0 where
   pub lines : m.world.shown ≡ w.shown ++ m.shown
   pub calls : EachCall P m.world.calls
   pub piece : EachLine (IsOf P) m.shown

@@ -15,7 +15,7 @@ use Rattle.ec_coherence.specs.StandLaws.{lined}
 use Rattle.ec_clerk_steps.specs.Calls.{is_shown}
 use Rattle.ec_clerk_steps.specs.CallLaws.{IsNewLine}
 use Rattle.ec_lease_machine.specs.World.{resume, wait}
-use Rattle.ec_lawful.specs.Steps.{Holds, IsDone, IsNewIn}
+use Rattle.ec_lawful.specs.Steps.{HoldsIn, StepIsDone, IsNewIn}
 use Rattle.ec_lawful.specs.Ties.{called}
 use Rattle.ec_lawful.specs.Whole.{Whole}
 
@@ -29,7 +29,7 @@ pub record MayBegin (g : System) (c l : ℕ) (cl : Call) : Type 0 where
 pub record QueuesKeep (F : System → Type 0) : Type 0 where
   pub waits : (g : System) (c b : ℕ) → F g → g.running c ≡ Some b → (l : ℕ) (cl : Call) → IsNewLine g l → F (lined g (Waits l c cl))
   pub resumes : (g : System) (c b : ℕ) (k : Clerk) → F g → g.running c ≡ Some b → g.clerks c b ≡ Some k → (l : ℕ) (cl : Call) → MayBegin g c l cl → is_shown g l ≡ true → T (is_bounded cl)
-      → IsDone F (called c (k.calls + 1) l cl g) c b (begin cl k)
+      → StepIsDone F (called c (k.calls + 1) l cl g) c b (begin cl k)
 
 abbrev pub QueuesKeepAll : Type 0
 QueuesKeepAll = QueuesKeep Whole
@@ -50,7 +50,7 @@ pub record MayResume (w : World) (c l : ℕ) (cl : Call) : Type 0 where
 
 -- so all facts hold behind both in a world that stands in a system of which they hold
 abbrev pub WaitsHold : Type 0
-WaitsHold = (w : World) → Holds Whole w → (c l : ℕ) (cl : Call) → MayWait w c l cl → Holds Whole (wait c l cl w).world
+WaitsHold = (w : World) → HoldsIn Whole w → (c l : ℕ) (cl : Call) → MayWait w c l cl → HoldsIn Whole (wait c l cl w).world
 
 abbrev pub ResumesHold : Type 0
-ResumesHold = (w : World) → Holds Whole w → (c l : ℕ) (cl : Call) → MayResume w c l cl → (resume c l cl w).fault ≡ None → Holds Whole (resume c l cl w).world
+ResumesHold = (w : World) → HoldsIn Whole w → (c l : ℕ) (cl : Call) → MayResume w c l cl → (resume c l cl w).fault ≡ None → HoldsIn Whole (resume c l cl w).world

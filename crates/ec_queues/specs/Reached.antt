@@ -14,7 +14,7 @@ use Rattle.ec_lawful.specs.Asked.{AsksAgree}
 use Rattle.ec_lawful.specs.Olds.{opened_in}
 use Rattle.ec_lawful.specs.Reached.{IsInOrder}
 use Rattle.ec_lawful.specs.ReachedWorlds.{Reached}
-use Rattle.ec_lawful.specs.Steps.{Holds, MayHappen}
+use Rattle.ec_lawful.specs.Steps.{HoldsIn, MayHappen}
 use Rattle.ec_lawful.specs.Whole.{Whole}
 use Rattle.ec_queues.specs.Queued.{MayResume, MayWait}
 
@@ -38,4 +38,4 @@ QueuedAreInOrder = (d : Durable) → WellFormed d → length d.sessions ≡ 16 �
 
 -- and stand in a system of which all facts hold, and in which nobody said goodbye.
 abbrev pub QueuedHold : Type 0
-QueuedHold = (d : Durable) → WellFormed d → length d.sessions ≡ 16 → images d.volume 0 ≡ Gone → (w : World) → QueuedReached d w → Holds (λ g. Whole g × AsksAgree (opened_in d).first_boot g) w
+QueuedHold = (d : Durable) → WellFormed d → length d.sessions ≡ 16 → images d.volume 0 ≡ Gone → (w : World) → QueuedReached d w → HoldsIn (λ g. Whole g × AsksAgree (opened_in d).first_boot g) w

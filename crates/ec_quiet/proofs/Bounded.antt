@@ -12,7 +12,7 @@ use Rattle.ec_quiet.specs.Measure.{sum, own_price, own_rank, holder_price, other
 use Rattle.ec_quiet.specs.Phases.{Phase, Greets, Opens, Claims, Wants, Recalls, Flushes, Keeps, Grants, Asks, Gives, Refuses, Saves, Saved, Ends, backs}
 use Rattle.ec_quiet.specs.Scenes.{Scene}
 use Rattle.ec_quiet.specs.Works.{Work, is_saving}
-use Rattle.ec_quiet.specs.Bounds.{IsFirst, other_rows}
+use Rattle.ec_quiet.specs.Bounds.{IsFirstPhase, other_rows}
 use Rattle.ec_base.proofs.HoldsLemmas.{rank-most}
 
 -- what one holder costs
@@ -66,7 +66,7 @@ more-most : (b : Bool) (n : ℕ) → if_more b n ≤ n
 more-most true n = omega arith
 more-most false n = omega arith
 
-weighs : (p : Phase) → IsFirst p → weight p ≤ 1152
+weighs : (p : Phase) → IsFirstPhase p → weight p ≤ 1152
 weighs (Greets age) f = omega arith
 weighs (Wants x h n) f = omega arith
 weighs (Asks again got ask) f = omega (arith, more-most again 576)
@@ -83,7 +83,7 @@ weighs (Refuses again ask live reserved) f = absurd f
 weighs (Saved b rest) f = absurd f
 
 -- no want is noted yet
-unnoted : (p : Phase) → IsFirst p → noted_in p ≡ None
+unnoted : (p : Phase) → IsFirstPhase p → noted_in p ≡ None
 unnoted (Greets age) f = refl
 unnoted (Wants x h n) f = refl
 unnoted (Asks again got ask) f = refl
@@ -107,7 +107,7 @@ base-most j ts clerks k touched fewer unsent =
     go : (m : ℕ) → m < k → sum (own_price j None ts) j.touched ≤ 137 * 1344 → sum (others_price j None ts) j.touched ≤ 137 * (256 * m) → base j None ts clerks + 35072 ≤ 250239 + 35072 * k
     go m l a b = omega (arith, l, a, b, unsent, asks-most (at j.clerk clerks))
 
-pub measure-most : (j : Work) (sc : Scene) (p : Phase) (k : ℕ) → IsFirst p → backs j sc.mail ≡ [] → length j.touched ≤ 137 → other_rows j.session sc.server.tokens < k
+pub measure-most : (j : Work) (sc : Scene) (p : Phase) (k : ℕ) → IsFirstPhase p → backs j sc.mail ≡ [] → length j.touched ≤ 137 → other_rows j.session sc.server.tokens < k
     → sum (unsent_by j) sc.clerks ≤ 65535 → measure j sc p ≤ 32 * (4096 * (k + 1))
 measure-most j sc p k first none touched fewer unsent =
     let b : base j (noted_in p) sc.server.tokens sc.clerks + 35072 ≤ 250239 + 35072 * k = subst (λ w. base j w sc.server.tokens sc.clerks + 35072 ≤ 250239 + 35072 * k) (sym (unnoted p first)) (base-most j sc.server.tokens sc.clerks k touched fewer unsent) in

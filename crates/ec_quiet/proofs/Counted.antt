@@ -16,7 +16,7 @@ use Rattle.ec_volume.specs.Update.{member}
 use Rattle.ec_durable.specs.Durable.{slot}
 use Rattle.ec_protocol.specs.declared.clerk.Clerk.{Clerk}
 use Rattle.ec_protocol.specs.declared.server.Server.{Server}
-use Rattle.ec_quiet.specs.Facts.{IsOrderly, clerk_of}
+use Rattle.ec_quiet.specs.Facts.{IsOrderly, session_clerk}
 use Rattle.ec_machine_laws.proofs.Once.{AreOnce, fewer, keys-length}
 use Rattle.ec_quiet.specs.Bounds.{other_rows}
 use Rattle.ec_base.proofs.Numbers.{same-self}
@@ -88,8 +88,8 @@ module _ (v : Server) (clerks : Table Clerk) (orderly : IsOrderly v clerks) (c s
       let w = orderly.holders t h.0 h.1 (ap (λ o. find nat_cmp h.0 (row_of o)) e ∙ h.2) in
       record { clerk = w.0; slot_is = w.1; there = w.2; session = w.3; is_open = w.4 }
 
-  clerk-of : (t : ℕ) (a : IsRun v clerks t) → clerk_of v t ≡ a.clerk
-  clerk-of t a = ap (clerk_of v) (sym a.session) ∙ orderly.own a.clerk a.slot_is a.there
+  clerk-of : (t : ℕ) (a : IsRun v clerks t) → session_clerk v t ≡ a.clerk
+  clerk-of t a = ap (session_clerk v) (sym a.session) ∙ orderly.own a.clerk a.slot_is a.there
 
   same-session : (t u : ℕ) (a : IsRun v clerks t) (b : IsRun v clerks u) → a.clerk ≡ b.clerk → t ≡ u
   same-session t u a b e =
@@ -102,7 +102,7 @@ module _ (v : Server) (clerks : Table Clerk) (orderly : IsOrderly v clerks) (c s
 
   -- the clerks of the other sessions
   abbrev others : Tokens → List ℕ
-  others ts = map (λ r. clerk_of v r.0) (filter (λ r. not (r.0 == s)) ts)
+  others ts = map (λ r. session_clerk v r.0) (filter (λ r. not (r.0 == s)) ts)
 
   -- one of them has a session that isn't s
   record IsOther (ts : Tokens) (y : ℕ) : Type 0 where
@@ -110,7 +110,7 @@ module _ (v : Server) (clerks : Table Clerk) (orderly : IsOrderly v clerks) (c s
     row : Row
     there : find nat_cmp session ts ≡ Some row
     other : (session == s) ≡ false
-    clerk : y ≡ clerk_of v session
+    clerk : y ≡ session_clerk v session
 
   self : (e : ℕ × Row) (ts : Tokens) → find nat_cmp e.0 (e ∷ ts) ≡ Some e.1
   self e ts = ap (λ b. cond b (Some e.1) (find nat_cmp e.0 ts)) one
@@ -125,13 +125,13 @@ module _ (v : Server) (clerks : Table Clerk) (orderly : IsOrderly v clerks) (c s
       wider : IsOther ts y → IsOther (e ∷ ts) y
       wider o = record { session = o.session; row = o.row; there = (later-row e ts o.session o.row sorted o.there).1; other = o.other; clerk = o.clerk }
 
-      here : (e.0 == s) ≡ false → (b : Bool) → (y == clerk_of v e.0) ≡ b → T (b || member y (others ts)) → (T (member y (others ts)) → IsOther ts y) → IsOther (e ∷ ts) y
-      here q true p m r = record { session = e.0; row = e.1; there = self e ts; other = q; clerk = eqb-true y (clerk_of v e.0) p }
+      here : (e.0 == s) ≡ false → (b : Bool) → (y == session_clerk v e.0) ≡ b → T (b || member y (others ts)) → (T (member y (others ts)) → IsOther ts y) → IsOther (e ∷ ts) y
+      here q true p m r = record { session = e.0; row = e.1; there = self e ts; other = q; clerk = eqb-true y (session_clerk v e.0) p }
       here q false p m r = wider (r m)
 
-      go : (b : Bool) → (e.0 == s) ≡ b → T (member y (map (λ r. clerk_of v r.0) (cond (not b) (e ∷ filter (λ r. not (r.0 == s)) ts) (filter (λ r. not (r.0 == s)) ts)))) → (T (member y (others ts)) → IsOther ts y) → IsOther (e ∷ ts) y
+      go : (b : Bool) → (e.0 == s) ≡ b → T (member y (map (λ r. session_clerk v r.0) (cond (not b) (e ∷ filter (λ r. not (r.0 == s)) ts) (filter (λ r. not (r.0 == s)) ts)))) → (T (member y (others ts)) → IsOther ts y) → IsOther (e ∷ ts) y
       go true q m r = wider (r m)
-      go false q m r = here q (y == clerk_of v e.0) refl m r
+      go false q m r = here q (y == session_clerk v e.0) refl m r
 
   differ : (y z : ℕ) → (y ≡ z → ⊥) → (y == z) ≡ false
   differ y z f = go (y == z) refl
@@ -150,18 +150,18 @@ module _ (v : Server) (clerks : Table Clerk) (orderly : IsOrderly v clerks) (c s
       tail : (t : ℕ) (r : Row) → find nat_cmp t ts ≡ Some r → IsRun v clerks t
       tail t r f = run t r (later-row e ts t r sorted f).1
 
-      first-once : (y : ℕ) → T (member y (others ts)) → (y == clerk_of v e.0) ≡ false
-      first-once y m = differ y (clerk_of v e.0) λ q.
+      first-once : (y : ℕ) → T (member y (others ts)) → (y == session_clerk v e.0) ≡ false
+      first-once y m = differ y (session_clerk v e.0) λ q.
           let o = other-of ts rest y m in
           let a = tail o.session o.row o.there in
           let b = run e.0 e.1 (self e ts) in
           turned o.session e.0 (later-row e ts o.session o.row sorted o.there).0 (same-session o.session e.0 a b (sym (clerk-of o.session a) ∙ sym o.clerk ∙ q ∙ clerk-of e.0 b))
 
-      go : (b : Bool) → AreOnce (others ts) → AreOnce (map (λ r. clerk_of v r.0) (cond (not b) (e ∷ filter (λ r. not (r.0 == s)) ts) (filter (λ r. not (r.0 == s)) ts)))
+      go : (b : Bool) → AreOnce (others ts) → AreOnce (map (λ r. session_clerk v r.0) (cond (not b) (e ∷ filter (λ r. not (r.0 == s)) ts) (filter (λ r. not (r.0 == s)) ts)))
       go true o = o
       go false o = (first-once, o)
 
-  map-length : (ts : Tokens) → length (map (λ r. clerk_of v r.0) ts) ≡ length ts
+  map-length : (ts : Tokens) → length (map (λ r. session_clerk v r.0) ts) ≡ length ts
   map-length [] = refl
   map-length (e ∷ ts) = ap suc (map-length ts)
 

@@ -37,7 +37,7 @@ use Rattle.ec_protocol.specs.declared.clerk.Clerk.{Clerk}
 use Rattle.ec_protocol.specs.declared.clerk.Out.TheVariants as out
 use Rattle.ec_protocol.specs.declared.clerk.Waiting.{Waiting}
 use Rattle.ec_protocol.specs.declared.clerk.Wanted.{Wanted}
-use Rattle.ec_quiet.specs.Facts.{IsAnswered, is_last}
+use Rattle.ec_quiet.specs.Facts.{WantIsAnswered, is_last}
 use Rattle.ec_quiet.specs.Measure.{asks_later, base, if_more, is_under_way, measure, unsent, unsent_by}
 use Rattle.ec_quiet.specs.Phases.{Phase, Asks, Ends, Wants, InPhase, IsAged, IsWorking, NoneNoted, Saves, backs, is_back_message, main}
 use Rattle.ec_quiet.specs.Scenes.{Mail, Scene, done_by}
@@ -45,7 +45,7 @@ use Rattle.ec_quiet.specs.Works.{Calls, Work, asked, asked_in, is_saving, saves}
 use Rattle.ec_quiet.specs.Evictions.{Evicts, Leaves, Uses, back_mail, less_tokens}
 use Rattle.ec_quiet.specs.Frames.{IsAlone, own_part}
 use Rattle.ec_quiet.specs.Goes.{Goes}
-use Rattle.ec_quiet.specs.Takings.{IsReady, with_clerk_at}
+use Rattle.ec_quiet.specs.Takings.{ClerkIsReady, with_clerk_at}
 use Rattle.ec_quiet.specs.Tries.{HasCounters, IsAnswer, IsBatch, IsCalm, IsRoom, IsWaiting, IsWant, batch_sent, issued, left_by, room_asked, updated}
 use Rattle.ec_quiet.proofs.Batches.{full-or-last, goes-out}
 use Rattle.ec_quiet.proofs.Beside.{backs-more, filter-both, main-more, own-at, own-comes, own-measure}
@@ -128,7 +128,7 @@ under-price false n m l = omega arith
 -- The try of the call.
 
 module _ (j : Work) (sc : Scene) (p : Phase) (q : InPhase j sc p) (alone : IsAlone p) (noted : NoneNoted sc) (rest : Mail) (main-rest : main j rest ≡ [])
-    (sl : Slot) (k : Clerk) (r : IsReady j (with_clerk_at j (doing k) rest sc) sl k) (w : Waiting) (calls : j.task ≡ Calls w.call) (waits : IsWaiting w k) where
+    (sl : Slot) (k : Clerk) (r : ClerkIsReady j (with_clerk_at j (doing k) rest sc) sl k) (w : Waiting) (calls : j.task ≡ Calls w.call) (waits : IsWaiting w k) where
   pub calm : IsCalm k
   calm = record {
     session = ap is_some r.inside.session;
@@ -193,7 +193,7 @@ module _ (j : Work) (sc : Scene) (p : Phase) (q : InPhase j sc p) (alone : IsAlo
       working : IsWorking [] j next sl final.clerk
       working = leaving.working j sc rest sl k r final.clerk refl refl refl refl v.gone v.leaves v.old v.room one none-back next.mail mail-is
 
-      answered : (vs : List Wanted) → Each (IsAnswered k.cache) vs → Each (IsAnswered v.cache) vs
+      answered : (vs : List Wanted) → Each (WantIsAnswered k.cache) vs → Each (WantIsAnswered v.cache) vs
       answered = leaving.answered j sc rest sl k r final.clerk refl refl refl refl v.gone v.leaves v.old v.room one none-back next.mail mail-is
 
       aged : IsAged j final.clerk

@@ -19,12 +19,12 @@ use Rattle.ec_protocol.specs.Clerk as clerk
 use Rattle.ec_protocol.specs.Clerk.{Doing, doing, max_tokens}
 use Rattle.ec_protocol.specs.declared.clerk.Clerk.{Clerk}
 use Rattle.ec_protocol.specs.declared.clerk.Wanted.{Wanted}
-use Rattle.ec_quiet.specs.Facts.{IsAnswered, Same, token_of}
+use Rattle.ec_quiet.specs.Facts.{WantIsAnswered, Same, token_of}
 use Rattle.ec_quiet.specs.Phases.{IsAged, IsGivenBack, IsLeaving, IsWorking, backs, is_back, main}
 use Rattle.ec_quiet.specs.Scenes.{Mail, Scene, sends}
 use Rattle.ec_quiet.specs.Works.{Work}
 use Rattle.ec_quiet.specs.Evictions.{IsOld, Leaves, back_mail, back_out}
-use Rattle.ec_quiet.specs.Takings.{IsReady, with_clerk_at}
+use Rattle.ec_quiet.specs.Takings.{ClerkIsReady, with_clerk_at}
 use Rattle.ec_quiet.proofs.Beside.{filter-both, own-at}
 use Rattle.ec_quiet.proofs.Taking.{each-both, each-map, each-of}
 use Rattle.ec_base.proofs.Lists.{no-more}
@@ -111,7 +111,7 @@ each-mail c s e P (t ∷ es) a = (a.0, each-mail c s e P es a.1)
 
 -- The clerk m behind the step, whose messages ms go out before those of the tokens es.
 
-module _ (j : Work) (sc : Scene) (rest : Mail) (sl : Slot) (k : Clerk) (r : IsReady j (with_clerk_at j (doing k) rest sc) sl k)
+module _ (j : Work) (sc : Scene) (rest : Mail) (sl : Slot) (k : Clerk) (r : ClerkIsReady j (with_clerk_at j (doing k) rest sc) sl k)
     (m : Clerk) (session : m.session ≡ k.session) (epoch : m.epoch ≡ k.epoch) (owed : m.owed ≡ k.owed) (recalls : m.recalls ≡ k.recalls)
     (es : Table Held) (leaves : Leaves es k.cache m.cache) (old : Each (IsOld j.number) es) (room : length m.cache.held ≤ max_tokens)
     (ms : Mail) (none : backs j ms ≡ []) (mail : Mail) (mail-is : mail ≡ rest ++ (ms ++ back_mail j.clerk j.session sc.server.durable.epoch es)) where
@@ -238,8 +238,8 @@ module _ (j : Work) (sc : Scene) (rest : Mail) (sl : Slot) (k : Clerk) (r : IsRe
     given_back = given-back;
   }
 
-  pub answered : (ws : List Wanted) → Each (IsAnswered k.cache) ws → Each (IsAnswered m.cache) ws
-  answered ws a = each-map (IsAnswered k.cache) (IsAnswered m.cache) (λ w f. omega (arith, f, last-same w.obj)) ws a
+  pub answered : (ws : List Wanted) → Each (WantIsAnswered k.cache) ws → Each (WantIsAnswered m.cache) ws
+  answered ws a = each-map (WantIsAnswered k.cache) (WantIsAnswered m.cache) (λ w f. omega (arith, f, last-same w.obj)) ws a
 
   -- the tokens that stay stand in the order of use as before
   pub still-aged : m.ids ≡ k.ids → m.cache.held ≡ unpinned (keys es) k.cache.held → IsAged j m

@@ -24,7 +24,7 @@ use Rattle.ec_quiet.specs.Facts.{IsIn, Lacks, token_of}
 use Rattle.ec_quiet.specs.Measure.{measure}
 use Rattle.ec_quiet.specs.Phases.{Claims, InPhase, IsAged, IsGivenBack, IsStarting, IsWorking, Lacking, Opens, backs, is_back, main, messages}
 use Rattle.ec_quiet.specs.Scenes.{Mail, Scene, delivered, done_by, sends, taken_by}
-use Rattle.ec_quiet.specs.Works.{Calls, HasTask, IsDone, Work}
+use Rattle.ec_quiet.specs.Works.{Calls, HasTask, NothingWaits, Work}
 use Rattle.ec_quiet.specs.Frames.{own_part}
 use Rattle.ec_quiet.specs.Tries.{IsCalm, left_by}
 use Rattle.ec_quiet.proofs.Beside.{backs-more, filter-both, main-more, own-at, own-comes, own-measure}
@@ -132,7 +132,7 @@ module _ (j : Work) (sc : Scene) (age : Age) (rest : Mail) (q : InPhase j sc (Op
 
   -- Nothing waits.
 
-  ends : IsDone k → settle claimed ≡ claimed
+  ends : NothingWaits k → settle claimed ≡ claimed
   ends done = prepared claimed start.new.recalls done.1 ∙ ap evict (tries-none claimed done.0) ∙ few-stay claimed few
 
   abbrev ended : Scene
@@ -141,7 +141,7 @@ module _ (j : Work) (sc : Scene) (age : Age) (rest : Mail) (q : InPhase j sc (Op
   claim-alone : backs j (sends j.clerk claimed.outs) ≡ []
   claim-alone = backs-more j j.clerk (Claim j.session e []) refl []
 
-  in-claims : IsDone k → InPhase j ended (Claims None)
+  in-claims : NothingWaits k → InPhase j ended (Claims None)
   in-claims done = own-comes j sc (Opens age) (Claims None) q tt tt claimed rest
       (filter-both (λ m. not (is_back j m)) rest (sends j.clerk claimed.outs) ∙ ap (λ l. l ++ main j (sends j.clerk claimed.outs)) main-rest ∙ main-more j j.clerk (Claim j.session e []) refl []) (
         q.facts.0,
@@ -256,6 +256,6 @@ module _ (j : Work) (sc : Scene) (age : Age) (rest : Mail) (q : InPhase j sc (Op
           let t : HasTask (Calls l.1) k = subst (λ t. HasTask t k) l.4 l.0 in
           wants-comes l.1 l.2 l.3 l.4 t.0 t.1 t.2 t.4 l.5 (subst (λ t. HasTask t (send_want l.2 l.3 claimed).clerk) (sym l.4) t) l.6
 
-      go : IsDone k ⊎ Lacking j k → Comes (delivered j.clerk opened rest sc)
+      go : NothingWaits k ⊎ Lacking j k → Comes (delivered j.clerk opened rest sc)
       go (inl done) = results claimed None (ends done) (in-claims done) refl claim-alone
       go (inr l) = lacking l

@@ -23,11 +23,11 @@ use Rattle.ec_protocol.specs.declared.clerk.Clerk.{Clerk}
 use Rattle.ec_protocol.specs.declared.clerk.Out.TheVariants as out
 use Rattle.ec_protocol.specs.declared.clerk.Waiting.{Waiting}
 use Rattle.ec_protocol.specs.declared.server.Server.{Server}
-use Rattle.ec_quiet.specs.Facts.{IsIdleBut, IsNew}
+use Rattle.ec_quiet.specs.Facts.{IsIdleBut, StartIsNew}
 use Rattle.ec_quiet.specs.Phases.{Greets, InPhase, IsStarting, Lacking, backs}
 use Rattle.ec_quiet.specs.Quiet.{IsIdle}
 use Rattle.ec_quiet.specs.Scenes.{Scene, done_by, sends}
-use Rattle.ec_quiet.specs.Works.{HasTask, IsDone, Work}
+use Rattle.ec_quiet.specs.Works.{HasTask, NothingWaits, Work}
 use Rattle.ec_quiet.specs.Tries.{left_by}
 use Rattle.ec_quiet.proofs.Beside.{backs-more, main-more, other-at, own-at, still-orderly}
 use Rattle.ec_quiet.proofs.Steps.{few-stay, prepared, tries-one}
@@ -62,9 +62,9 @@ module _ (j : Work) (sc : Scene) (boot : ℕ) (cl : Call) (idle : IsIdle sc) (is
   record IsBegun (d : Doing) : Type 0 where
     spent : d.spent ≡ None
     silent : sends c d.outs ≡ []
-    new_is : IsNew d.clerk
+    new_is : StartIsNew d.clerk
     age_is : d.clerk.age ≡ age
-    task : IsDone d.clerk ⊎ Lacking j d.clerk
+    task : NothingWaits d.clerk ⊎ Lacking j d.clerk
     few : length d.clerk.cache.held ≤ d.clerk.cache.capacity
 
   -- the call lacks a token, and no want goes out without a session

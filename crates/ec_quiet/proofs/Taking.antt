@@ -22,11 +22,11 @@ use Rattle.ec_wire.specs.declared.msg.Msg.TheVariants.{Back, Grant}
 use Rattle.ec_protocol.specs.Clerk.{max_tokens, settle}
 use Rattle.ec_protocol.specs.declared.clerk.Clerk.{Clerk}
 use Rattle.ec_protocol.specs.declared.clerk.Wanted.{Wanted}
-use Rattle.ec_quiet.specs.Facts.{IsAnswered, Same, token_of}
+use Rattle.ec_quiet.specs.Facts.{WantIsAnswered, Same, token_of}
 use Rattle.ec_quiet.specs.Phases.{Grants, InPhase, IsAged, IsGivenBack, IsLeaving, IsWanting, backs, is_back_message}
 use Rattle.ec_quiet.specs.Scenes.{Mail, Scene, delivered, done_by, taken_by}
 use Rattle.ec_quiet.specs.Works.{Calls, HasTask, Pushes, Task, Work}
-use Rattle.ec_quiet.specs.Takings.{IsInside, IsReady, taking}
+use Rattle.ec_quiet.specs.Takings.{IsInside, ClerkIsReady, taking}
 use Rattle.ec_quiet.proofs.Begun.{grants}
 use Rattle.ec_quiet.proofs.Beside.{backs-more, filter-both, own-at}
 
@@ -235,14 +235,14 @@ module _ (j : Work) (sc : Scene) (x : ℕ) (h : Hold) (n : ℕ) (rest : Mail) (q
 
   -- each want was answered
 
-  answered-later : (v : Wanted) → IsAnswered k.cache v → IsAnswered now-cache v
+  answered-later : (v : Wanted) → WantIsAnswered k.cache v → WantIsAnswered now-cache v
   answered-later v a = omega (arith, a, last-rises x h n i k.cache new v.obj)
 
-  answered : Each (IsAnswered now-cache) k.wanted
-  answered = subst (Each (IsAnswered now-cache)) (sym w.wants) (omega (arith, new, last-own x h n i k.cache new), each-map (IsAnswered k.cache) (IsAnswered now-cache) answered-later w.earlier w.answered)
+  answered : Each (WantIsAnswered now-cache) k.wanted
+  answered = subst (Each (WantIsAnswered now-cache)) (sym w.wants) (omega (arith, new, last-own x h n i k.cache new), each-map (WantIsAnswered k.cache) (WantIsAnswered now-cache) answered-later w.earlier w.answered)
 
   abbrev Ready : CacheState → Type 0
-  Ready c = IsReady j (record sc { clerks = put j.clerk (record k { cache = c }) sc.clerks; mail = rest }) w.slot (record k { cache = c })
+  Ready c = ClerkIsReady j (record sc { clerks = put j.clerk (record k { cache = c }) sc.clerks; mail = rest }) w.slot (record k { cache = c })
 
   inside : IsInside sc.server j.clerk w.slot now-clerk
   inside = record {

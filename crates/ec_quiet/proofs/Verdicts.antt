@@ -21,7 +21,7 @@ use Rattle.ec_resolve.specs.declared.verdict.Verdict.TheVariants.{Need, Lost, Ne
 use Rattle.ec_protocol.specs.Clerk.{is_wanted, same_hold, wanted}
 use Rattle.ec_protocol.specs.declared.clerk.Clerk.{Clerk}
 use Rattle.ec_protocol.specs.declared.clerk.Wanted.{Wanted}
-use Rattle.ec_quiet.specs.Facts.{IsAnswered}
+use Rattle.ec_quiet.specs.Facts.{WantIsAnswered}
 
 pub first-passes : (p : ℕ → Bool) (xs : List ℕ) (x : ℕ) → first p xs ≡ Some x → p x ≡ true
 first-passes p [] x e = absurd (grind (arith, e))
@@ -123,7 +123,7 @@ neither : (a b : Bool) → a ≡ false → b ≡ false → (a || b) ≡ false
 neither true b e f = absurd (grind (arith, e))
 neither false b e f = f
 
-pub wants-once : (x : ℕ) (h : Hold) (k : Clerk) (ws : List Wanted) → Each (IsAnswered k.cache) ws → list_any (is_wanted (wanted x h k)) ws ≡ false
+pub wants-once : (x : ℕ) (h : Hold) (k : Clerk) (ws : List Wanted) → Each (WantIsAnswered k.cache) ws → list_any (is_wanted (wanted x h k)) ws ≡ false
 wants-once x h k [] e = refl
 wants-once x h k (w ∷ ws) e = neither (is_wanted (wanted x h k) w) (list_any (is_wanted (wanted x h k)) ws) (differs (x == w.obj) (same_hold h w.hold) (last x k.cache == w.last) later) (wants-once x h k ws e.1)
   where

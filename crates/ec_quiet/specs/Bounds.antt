@@ -4,21 +4,21 @@ use Rattle.ec_tokens.specs.Tokens.{Tokens}
 use Rattle.ec_quiet.specs.Phases.{Phase, Greets, Opens, Claims, Wants, Recalls, Flushes, Keeps, Grants, Asks, Gives, Refuses, Saves, Saved, Ends}
 
 -- The line's own step was its clerk's: it greets, or asks for what it lacks, or is done.
-abbrev pub IsFirst : Phase → Type 0
-IsFirst (Greets age) = ⊤
-IsFirst (Wants x h n) = ⊤
-IsFirst (Asks again got ask) = ⊤
-IsFirst (Saves b ops rest) = ⊤
-IsFirst Ends = ⊤
-IsFirst (Opens age) = ⊥
-IsFirst (Claims o) = ⊥
-IsFirst (Recalls x h rs bs) = ⊥
-IsFirst (Flushes x h r b ops rest) = ⊥
-IsFirst (Keeps x h r b rest) = ⊥
-IsFirst (Grants x h n) = ⊥
-IsFirst (Gives got n first) = ⊥
-IsFirst (Refuses again ask live reserved) = ⊥
-IsFirst (Saved b rest) = ⊥
+abbrev pub IsFirstPhase : Phase → Type 0
+IsFirstPhase (Greets age) = ⊤
+IsFirstPhase (Wants x h n) = ⊤
+IsFirstPhase (Asks again got ask) = ⊤
+IsFirstPhase (Saves b ops rest) = ⊤
+IsFirstPhase Ends = ⊤
+IsFirstPhase (Opens age) = ⊥
+IsFirstPhase (Claims o) = ⊥
+IsFirstPhase (Recalls x h rs bs) = ⊥
+IsFirstPhase (Flushes x h r b ops rest) = ⊥
+IsFirstPhase (Keeps x h r b rest) = ⊥
+IsFirstPhase (Grants x h n) = ⊥
+IsFirstPhase (Gives got n first) = ⊥
+IsFirstPhase (Refuses again ask live reserved) = ⊥
+IsFirstPhase (Saved b rest) = ⊥
 
 -- so many other sessions have tokens
 abbrev pub other_rows : ℕ → Tokens → ℕ

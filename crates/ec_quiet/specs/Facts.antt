@@ -26,8 +26,8 @@ use Rattle.ec_protocol.specs.declared.server.Server.{Server}
 -- The server.
 
 -- the clerk whose session this is
-abbrev pub clerk_of : Server → ℕ → ℕ
-clerk_of v s = clerk_from 0 s v.durable.sessions
+abbrev pub session_clerk : Server → ℕ → ℕ
+session_clerk v s = clerk_from 0 s v.durable.sessions
 
 -- Sessions and tokens are in order: each open session has claimed and its clerk runs, and only those have tokens.
 pub record IsOrderly (v : Server) (clerks : Table Clerk) : Type 0 where
@@ -37,7 +37,7 @@ pub record IsOrderly (v : Server) (clerks : Table Clerk) : Type 0 where
   pub claimed : all_claimed v ≡ true
   pub run : (c : ℕ) (sl : Slot) → slot v.durable c ≡ Some sl → sl.is_open ≡ true → T (is_some (at c clerks))
   -- a slot's session is of no other slot, and was opened before the next one
-  pub own : (c : ℕ) (sl : Slot) → slot v.durable c ≡ Some sl → clerk_of v sl.session ≡ c
+  pub own : (c : ℕ) (sl : Slot) → slot v.durable c ≡ Some sl → session_clerk v sl.session ≡ c
   pub earlier : (c : ℕ) (sl : Slot) → slot v.durable c ≡ Some sl → sl.session < v.durable.next_session
   pub holders : (s x : ℕ) (t : Token) → token v.tokens s x ≡ Some t → (c : ℕ) × (sl : Slot) × (slot v.durable c ≡ Some sl) × (sl.session ≡ s) × (sl.is_open ≡ true)
 
@@ -71,8 +71,8 @@ pub record IsIn (v : Server) (c : ℕ) (sl : Slot) (k : Clerk) : Type 0 where
   pub room : length k.cache.held ≤ max_tokens
 
 -- a want that was sent and answered by a token: the clerk knows a later number
-abbrev pub IsAnswered : CacheState → Wanted → Type 0
-IsAnswered k w = w.last < last w.obj k
+abbrev pub WantIsAnswered : CacheState → Wanted → Type 0
+WantIsAnswered k w = w.last < last w.obj k
 
 -- the server's window has all of the clerk's batches but the last so many
 abbrev pub Lacks : ℕ → Slot → LogState → Type 0
@@ -93,11 +93,11 @@ pub record IsIdleBut (xs : List ℕ) (v : Server) (c : ℕ) (sl : Slot) (k : Cle
   pub asking : k.asking ≡ None
   pub window : Lacks 0 sl k.log
   pub grants : sl.grants ≡ k.got
-  pub answered : Each (IsAnswered k.cache) k.wanted
+  pub answered : Each (WantIsAnswered k.cache) k.wanted
   pub same : SameBut xs v sl.session k
 
 -- A start that has no session yet, and nothing else.
-pub record IsNew (k : Clerk) : Type 0 where
+pub record StartIsNew (k : Clerk) : Type 0 where
   pub session : k.session ≡ None
   pub cache : k.cache ≡ empty max_tokens
   pub log : k.log ≡ log.empty

@@ -16,12 +16,12 @@ use Rattle.ec_quiet.specs.Phases.{InPhase, Phase, backs}
 use Rattle.ec_quiet.specs.Quiet.{IsIdle}
 use Rattle.ec_quiet.specs.Scenes.{Scene, done_by}
 use Rattle.ec_quiet.specs.Works.{Calls, Pushes, Work}
-use Rattle.ec_quiet.specs.Bounds.{IsFirst}
+use Rattle.ec_quiet.specs.Bounds.{IsFirstPhase}
 
 -- The line's work is in a phase in which lines begin, and no token is on its way back.
 pub record HasFirst (j : Work) (sc : Scene) : Type 0 where
   pub phase : Phase
-  pub first : IsFirst phase
+  pub first : IsFirstPhase phase
   pub comes : InPhase j sc phase
   pub none_back : backs j sc.mail ≡ []
 

@@ -16,7 +16,7 @@ use Rattle.ec_quiet.specs.Scenes.{Mail, Scene, delivered, done_by}
 use Rattle.ec_quiet.specs.Works.{Calls, Work, is_saving}
 use Rattle.ec_quiet.specs.Evictions.{Evicts}
 use Rattle.ec_quiet.specs.Frames.{IsAlone, IsAsked}
-use Rattle.ec_quiet.specs.Takings.{IsReady, taking, with_clerk_at}
+use Rattle.ec_quiet.specs.Takings.{ClerkIsReady, taking, with_clerk_at}
 use Rattle.ec_quiet.specs.Tries.{HasCounters, IsWaiting, left_by}
 
 -- Behind the step d a phase comes in which no token of another clerk is recalled; what is left to do beside the tokens, the operations and the ids is
@@ -47,7 +47,7 @@ pub record MayGo (j : Work) (k : Clerk) : Type 0 where
 -- Nothing but messages that go back is under way.
 abbrev pub ReadyGoes : Type 0
 ReadyGoes = (j : Work) (sc : Scene) (p : Phase) → InPhase j sc p → IsAlone p → NoneNoted sc → (rest : Mail) → main j rest ≡ []
-    → (sl : Slot) (k : Clerk) → IsReady j (with_clerk_at j (doing k) rest sc) sl k → MayGo j k → Goes j sc rest k (settle (doing k))
+    → (sl : Slot) (k : Clerk) → ClerkIsReady j (with_clerk_at j (doing k) rest sc) sl k → MayGo j k → Goes j sc rest k (settle (doing k))
 
 -- the work is in a phase whose measure is lower
 abbrev pub GoesOn : Work → Scene → Phase → Scene → Type 0

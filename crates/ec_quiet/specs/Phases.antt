@@ -32,9 +32,9 @@ use Rattle.ec_protocol.specs.Server.{has_claimed}
 use Rattle.ec_protocol.specs.declared.clerk.Clerk.{Clerk}
 use Rattle.ec_protocol.specs.declared.clerk.Recalled.{Recalled}
 use Rattle.ec_protocol.specs.declared.clerk.Wanted.{Wanted}
-use Rattle.ec_quiet.specs.Facts.{IsAnswered, IsFree, IsIdleBut, IsIn, IsNew, IsOrderly, IsSending, Lacks, Same, SameBut, clerk_of, is_last, token_of}
+use Rattle.ec_quiet.specs.Facts.{WantIsAnswered, IsFree, IsIdleBut, IsIn, StartIsNew as IsNew, IsOrderly, IsSending, Lacks, Same, SameBut, session_clerk as clerk_of, is_last, token_of}
 use Rattle.ec_quiet.specs.Scenes.{Mail, Scene}
-use Rattle.ec_quiet.specs.Works.{HasTask, IsDone, Task, Calls, Pushes, Work, asked, is_saving}
+use Rattle.ec_quiet.specs.Works.{HasTask, NothingWaits as IsDone, Task, Calls, Pushes, Work, asked, is_saving}
 
 -- Which messages are under way. In brackets: for a line's clerk A, or for one of its conflicting holders C.
 pub data Phase : Type 0 where
@@ -164,7 +164,7 @@ pub record IsWanting (xs : List ℕ) (j : Work) (sc : Scene) (x : ℕ) (h : Hold
   pub below : T (is_below (mode x clerk.cache) h)
   pub earlier : List Wanted
   pub wants : clerk.wanted ≡ wanted x h clerk ∷ earlier
-  pub answered : Each (IsAnswered clerk.cache) earlier
+  pub answered : Each (WantIsAnswered clerk.cache) earlier
 
 -- it asked for ids, and has none; so its call makes an object, and saves nothing
 pub record IsAsking (xs : List ℕ) (j : Work) (sc : Scene) (again : Bool) (ask : ℕ) : Type 0 where
@@ -177,7 +177,7 @@ pub record IsAsking (xs : List ℕ) (j : Work) (sc : Scene) (again : Bool) (ask 
   pub makes : is_saving j.task ≡ false
   pub batches : clerk.log.batches ≡ []
   pub window : Lacks 0 slot clerk.log
-  pub answered : Each (IsAnswered clerk.cache) clerk.wanted
+  pub answered : Each (WantIsAnswered clerk.cache) clerk.wanted
   pub aged : IsAged j clerk
   -- unless it may ask once more, it lacks nothing but ids
   pub lacks : (call : Call) → j.task ≡ Calls call → again ≡ false → (xs : List ℕ) × (verdict call clerk ≡ NeedIds xs)
@@ -192,7 +192,7 @@ pub record IsSaving (n : ℕ) (j : Work) (sc : Scene) (b : ℕ) (rest : Bool) : 
   pub sending : IsSending clerk.log b
   pub window : Lacks n slot clerk.log
   pub grants : slot.grants ≡ clerk.got
-  pub answered : Each (IsAnswered clerk.cache) clerk.wanted
+  pub answered : Each (WantIsAnswered clerk.cache) clerk.wanted
   pub aged : IsAged j clerk
   -- where no further one follows, all that's asked for is durable then
   pub last : rest ≡ false → (a : Asked) × (asked j.task clerk ≡ Some a) × (is_last a b clerk.log ≡ true)
@@ -212,7 +212,7 @@ pub record IsRecalled (n : ℕ) (sc : Scene) (x : ℕ) (h : Hold) (r : Holder) (
   pub sending : IsSending clerk.log b
   pub window : Lacks n slot clerk.log
   pub grants : slot.grants ≡ clerk.got
-  pub answered : Each (IsAnswered clerk.cache) clerk.wanted
+  pub answered : Each (WantIsAnswered clerk.cache) clerk.wanted
   pub same : SameBut [] sc.server r.0 clerk
   pub writes : r.1 ≡ Write
   pub last : rest ≡ false → is_last (Object x) b clerk.log ≡ true
@@ -259,7 +259,7 @@ pub record HasEnded (j : Work) (sc : Scene) : Type 0 where
   pub batches : clerk.log.batches ≡ []
   pub window : Lacks 0 slot clerk.log
   pub grants : slot.grants ≡ clerk.got
-  pub answered : Each (IsAnswered clerk.cache) clerk.wanted
+  pub answered : Each (WantIsAnswered clerk.cache) clerk.wanted
 
 abbrev pub NoneNoted : Scene → Type 0
 NoneNoted sc = sc.server.recalls ≡ []

@@ -14,7 +14,7 @@ use Rattle.ec_protocol.specs.Server.{has_claimed}
 use Rattle.ec_protocol.specs.declared.clerk.Clerk.{Clerk}
 use Rattle.ec_protocol.specs.declared.server.Server.{Server}
 use Rattle.ec_wire.specs.declared.msg.Msg.{Msg}
-use Rattle.ec_quiet.specs.Facts.{IsAnswered, Lacks, Same}
+use Rattle.ec_quiet.specs.Facts.{WantIsAnswered, Lacks, Same}
 use Rattle.ec_quiet.specs.Phases.{Grants, InPhase, IsAged, IsGivenBack, IsLeaving, backs}
 use Rattle.ec_quiet.specs.Scenes.{Mail, Scene, delivered, done_by}
 use Rattle.ec_quiet.specs.Works.{HasTask, Work}
@@ -32,7 +32,7 @@ pub record IsInside (v : Server) (c : ℕ) (sl : Slot) (k : Clerk) : Type 0 wher
   pub capacity : k.cache.capacity ≡ max_tokens
 
 -- It stands before the try of its call: it has the tokens that the server has recorded, each want was answered, and nothing is asked for or under way.
-pub record IsReady (j : Work) (sc : Scene) (sl : Slot) (k : Clerk) : Type 0 where
+pub record ClerkIsReady (j : Work) (sc : Scene) (sl : Slot) (k : Clerk) : Type 0 where
   pub there : at j.clerk sc.clerks ≡ Some k
   pub inside : IsInside sc.server j.clerk sl k
   pub session : sl.session ≡ j.session
@@ -46,7 +46,7 @@ pub record IsReady (j : Work) (sc : Scene) (sl : Slot) (k : Clerk) : Type 0 wher
   pub batches : k.log.batches ≡ []
   pub window : Lacks 0 sl k.log
   pub grants : sl.grants ≡ k.got
-  pub answered : Each (IsAnswered k.cache) k.wanted
+  pub answered : Each (WantIsAnswered k.cache) k.wanted
 
 -- the step that takes it, before the try
 abbrev pub taking : ℕ → Hold → ℕ → Scene → Clerk → Doing
@@ -61,4 +61,4 @@ GrantsAreTaken = (j : Work) (sc : Scene) (x : ℕ) (h : Hold) (n : ℕ) (rest : 
     → sc.mail ≡ (j.clerk, Grant j.session sc.server.durable.epoch x n h (images sc.server.durable.volume x)) ∷ rest → n ≤ sc.server.number
     → (k : Clerk) × (sl : Slot) × (at j.clerk sc.clerks ≡ Some k)
     × (delivered j.clerk (Grant j.session sc.server.durable.epoch x n h (images sc.server.durable.volume x)) rest sc ≡ done_by j.clerk (settle (taking x h n sc k)) rest sc)
-    × IsReady j (with_clerk_at j (taking x h n sc k) rest sc) sl (taking x h n sc k).clerk
+    × ClerkIsReady j (with_clerk_at j (taking x h n sc k) rest sc) sl (taking x h n sc k).clerk

@@ -33,7 +33,7 @@ use Rattle.ec_protocol.specs.declared.clerk.Recalled.{Recalled}
 use Rattle.ec_protocol.specs.declared.clerk.Wanted.{Wanted}
 use Rattle.ec_protocol.specs.declared.clerk.Waiting.{Waiting}
 use Rattle.ec_protocol.specs.declared.server.Server.{Server}
-use Rattle.ec_quiet.specs.Facts.{clerk_of, is_last, token_of}
+use Rattle.ec_quiet.specs.Facts.{session_clerk as clerk_of, is_last, token_of}
 use Rattle.ec_quiet.specs.Phases.{Phase, Greets, Opens, Claims, Wants, Recalls, Flushes, Keeps, Grants, Asks, Gives, Refuses, Saves, Saved, Ends, backs, excepted, is_busy, lowered_to, main, messages}
 use Rattle.ec_quiet.specs.Scenes.{Mail, Scene}
 use Rattle.ec_quiet.specs.Works.{Task, Calls, Pushes, Work, asked}

@@ -23,7 +23,7 @@ use Rattle.ec_protocol.specs.Clerk.{Doing, Tried, Waits, Answered, add_ids, answ
 use Rattle.ec_protocol.specs.declared.clerk.Clerk.{Clerk}
 use Rattle.ec_protocol.specs.declared.clerk.Recalled.{Recalled}
 use Rattle.ec_protocol.specs.declared.clerk.Waiting.{Waiting}
-use Rattle.ec_quiet.specs.Facts.{IsAnswered, IsFree}
+use Rattle.ec_quiet.specs.Facts.{WantIsAnswered, IsFree}
 use Rattle.ec_quiet.specs.Works.{Calls, asked}
 
 -- The clerk is in a session. Nothing is recalled, owed, asked for or under way, and each want was answered.
@@ -32,7 +32,7 @@ pub record IsCalm (k : Clerk) : Type 0 where
   pub free : IsFree k
   pub unowed : k.owed ≡ []
   pub asking : k.asking ≡ None
-  pub answered : Each (IsAnswered k.cache) k.wanted
+  pub answered : Each (WantIsAnswered k.cache) k.wanted
 
 -- no counter is at its limit
 pub record HasCounters (k : Clerk) : Type 0 where

@@ -40,8 +40,8 @@ HasTask (Calls cl) k = (w : Waiting) × (k.waiting ≡ w ∷ []) × (w.call ≡ 
 HasTask (Pushes n) k = (k.waiting ≡ []) × (k.pushes ≡ n ∷ [])
 
 -- nothing waits
-abbrev pub IsDone : Clerk → Type 0
-IsDone k = (k.waiting ≡ []) × (k.pushes ≡ [])
+abbrev pub NothingWaits : Clerk → Type 0
+NothingWaits k = (k.waiting ≡ []) × (k.pushes ≡ [])
 
 -- what is asked to be durable, where that's known
 abbrev pub asked_in : Call → Verdict → Option Asked

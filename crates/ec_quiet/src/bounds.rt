@@ -10,13 +10,13 @@ ghost use Rattle.ec_quiet.specs.Measure.{measure, sum, unsent_by};
 ghost use Rattle.ec_quiet.specs.Phases.{Phase, backs};
 ghost use Rattle.ec_quiet.specs.Scenes.{Scene};
 ghost use Rattle.ec_quiet.specs.Works.{Work};
-ghost use Rattle.ec_quiet.specs.Bounds.{IsFirst, other_rows};
+ghost use Rattle.ec_quiet.specs.Bounds.{IsFirstPhase, other_rows};
 
 /// Where a line begins that touches at most 137 objects, while fewer than so many other sessions
 /// have tokens and fewer than 65,536 operations are undurable, the measure is that of at most 4,096
 /// deliveries for each and 4,096 more.
 pub fn measures_are_bounded_where_lines_begin()
-    ensures { (j : Work) (sc : Scene) (p : Phase) (k : ℕ) → IsFirst p → backs j sc.mail ≡ [] → length j.touched ≤ 137 → other_rows j.session sc.server.tokens < k
+    ensures { (j : Work) (sc : Scene) (p : Phase) (k : ℕ) → IsFirstPhase p → backs j sc.mail ≡ [] → length j.touched ≤ 137 → other_rows j.session sc.server.tokens < k
         → sum (unsent_by j) sc.clerks ≤ 65535 → measure j sc p ≤ 32 * (4096 * (k + 1)) }
 {}
 

@@ -6,7 +6,7 @@ use Rattle.std.proofs.lemmas.Bool.{and_parts}
 use Rattle.ec_base.specs.declared.ids.Hold.{Hold}
 use Rattle.ec_base.specs.Holds.{clash}
 use Rattle.ec_tokens.specs.Laws.{clear_of, holder_has, sound_granted, token-granted}
-use Rattle.ec_tokens.specs.Tokens.{Tokens, Holder, first as front, mode, token, holders, is_conflict, conflicts, is_clear, granted}
+use Rattle.ec_tokens.specs.Tokens.{Tokens, Holder, first_holder as front, mode, token, holders, is_conflict, conflicts, is_clear, granted}
 use Rattle.ec_tokens.specs.SoundTokens.{IsSound}
 use Rattle.ec_recall.specs.declared.want.Want.{Want}
 use Rattle.ec_recall.specs.declared.want.Action.{Action}
@@ -111,8 +111,8 @@ settled ts ws none = settled_from ts [] ws none
 -- What conflicts with no recorded token and with no grant conflicts with no token once the grants are recorded.
 
 -- each token is one of the first ones, or was given since
-abbrev pub Turned : Tokens → Tokens → Tokens → Type 0
-Turned first given now = (t x : ℕ) → (token now t x ≡ token first t x) ⊎ (mode (token now t x) ≡ mode (token given t x))
+abbrev pub TokensTurned : Tokens → Tokens → Tokens → Type 0
+TokensTurned first given now = (t x : ℕ) → (token now t x ≡ token first t x) ⊎ (mode (token now t x) ≡ mode (token given t x))
 
 none_pass : (p : Holder → Bool) (hs : List Holder) → ((h : Holder) → Contains hs h → p h ≡ false) → is_none (front (filter p hs)) ≡ true
 none_pass p [] f = refl
@@ -122,7 +122,7 @@ none_pass p (h ∷ hs) f = go (p h) (f h (0, omega arith, refl)) (none_pass p hs
     go true e r = absurd (grind (arith, e))
     go false e r = r
 
-pub clear_now : (first given now : Tokens) (s x : ℕ) (h : Hold) → IsSound now → Turned first given now → is_clear first s x h ≡ true → is_clear given s x h ≡ true → is_clear now s x h ≡ true
+pub clear_now : (first given now : Tokens) (s x : ℕ) (h : Hold) → IsSound now → TokensTurned first given now → is_clear first s x h ≡ true → is_clear given s x h ≡ true → is_clear now s x h ≡ true
 clear_now first given now s x h sound turned a b = none_pass (is_conflict s h) (holders now x) (λ g c. go g c (g.0 == s) refl)
   where
     quiet : (t : ℕ) → (t == s) ≡ false → clash (mode (token now t x)) h ≡ false
@@ -135,7 +135,7 @@ clear_now first given now s x h sound turned a b = none_pass (is_conflict s h) (
     go g c true e = ap (λ b. not b && clash g.1 h) e
     go g c false e = ap (λ b. not b && clash g.1 h) e ∙ sym (ap (λ o. clash (mode o) h) (holder_has now x g sound.rising c)) ∙ quiet g.0 e
 
-turned_on : (first given now : Tokens) (s x : ℕ) (h : Hold) (n : ℕ) → Turned first given now → Turned first (given_to s x h given) (granted s x h n now)
+turned_on : (first given now : Tokens) (s x : ℕ) (h : Hold) (n : ℕ) → TokensTurned first given now → TokensTurned first (given_to s x h given) (granted s x h n now)
 turned_on first given now s x h n turned t y =
     subst (λ o. (o ≡ token first t y) ⊎ (mode o ≡ mode (token (granted s x h 0 given) t y))) (sym (token-granted now s x h n t y))
     (subst (λ o. (cond ((t == s) && (y == x)) (Some (record { hold = h; number = n })) (token now t y) ≡ token first t y) ⊎ (mode (cond ((t == s) && (y == x)) (Some (record { hold = h; number = n })) (token now t y)) ≡ mode o)) (sym (token-granted given s x h 0 t y)) (go ((t == s) && (y == x))))
@@ -144,7 +144,7 @@ turned_on first given now s x h n turned t y =
     go true = inr refl
     go false = turned t y
 
-go_in_from : (first given now : Tokens) (ws : List Want) → IsSound now → NoneFree ws → Turned first given now → GrantsGoIn now (actions_from first given ws)
+go_in_from : (first given now : Tokens) (ws : List Want) → IsSound now → NoneFree ws → TokensTurned first given now → GrantsGoIn now (actions_from first given ws)
 go_in_from first given now [] sound held turned = tt
 go_in_from first given now (w ∷ ws) sound held turned =
     go (is_due first given w) refl (λ n clear. go_in_from first (given_to w.session w.obj w.hold given) (granted w.session w.obj w.hold n now) ws (sound_granted now w.session sound w.obj w.hold n held.0 clear) held.1 (turned_on first given now w.session w.obj w.hold n turned))

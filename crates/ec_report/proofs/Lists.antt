@@ -5,7 +5,7 @@ use Rattle.std.proofs.lemmas.Bool.{eq-eqb, ne_eqb, eqb-true, eqb-false, cases_Bo
 use Rattle.std.proofs.lemmas.List.{append_assoc}
 use Rattle.ec_base.specs.Tables.{once}
 use Rattle.ec_volume.specs.Update.{member}
-use Rattle.ec_report.specs.Index.{without, fresh}
+use Rattle.ec_report.specs.Index.{without_object, fresh}
 use Rattle.ec_base.proofs.Numbers.{same-number, turned}
 use Rattle.ec_base.proofs.Lists.{Above, Rises}
 
@@ -40,24 +40,24 @@ member_alike n xs ys to back = go (member n xs) (member n ys) refl refl
 
 -- One number left out.
 
-pub member-without : (n x : ℕ) (xs : List ℕ) → member n (without x xs) ≡ (member n xs && not (n == x))
+pub member-without : (n x : ℕ) (xs : List ℕ) → member n (without_object x xs) ≡ (member n xs && not (n == x))
 member-without n x [] = refl
 member-without n x (y ∷ ys) = go (y == x) refl (member-without n x ys)
   where
-    go : (b : Bool) → (y == x) ≡ b → member n (without x ys) ≡ (member n ys && not (n == x)) → member n (cond (not b) (y ∷ without x ys) (without x ys)) ≡ (member n (y ∷ ys) && not (n == x))
+    go : (b : Bool) → (y == x) ≡ b → member n (without_object x ys) ≡ (member n ys && not (n == x)) → member n (cond (not b) (y ∷ without_object x ys) (without_object x ys)) ≡ (member n (y ∷ ys) && not (n == x))
     go true e r = r ∙ grind (arith, eqb-true y x e)
     go false e r = ap (λ b. (n == y) || b) r ∙ grind (arith, eqb-false y x e)
 
-pub without_absent : (x : ℕ) (xs : List ℕ) → member x xs ≡ false → without x xs ≡ xs
+pub without_absent : (x : ℕ) (xs : List ℕ) → member x xs ≡ false → without_object x xs ≡ xs
 without_absent x [] m = refl
 without_absent x (y ∷ ys) m = go (y == x) (turned y x) m (without_absent x ys)
   where
-    go : (b : Bool) → b ≡ (x == y) → ((x == y) || member x ys) ≡ false → (member x ys ≡ false → without x ys ≡ ys) → cond (not b) (y ∷ without x ys) (without x ys) ≡ y ∷ ys
+    go : (b : Bool) → b ≡ (x == y) → ((x == y) || member x ys) ≡ false → (member x ys ≡ false → without_object x ys ≡ ys) → cond (not b) (y ∷ without_object x ys) (without_object x ys) ≡ y ∷ ys
     go true e m f = absurd (grind (arith, e, m))
     go false e m f = ap (λ l. y ∷ l) (f (grind (arith, m)))
 
-pub without_twice : (x : ℕ) (xs : List ℕ) → without x (without x xs) ≡ without x xs
-without_twice x xs = without_absent x (without x xs) (member-without x x xs ∙ ap (λ b. member x xs && not b) (same-number x) ∙ grind arith)
+pub without_twice : (x : ℕ) (xs : List ℕ) → without_object x (without_object x xs) ≡ without_object x xs
+without_twice x xs = without_absent x (without_object x xs) (member-without x x xs ∙ ap (λ b. member x xs && not b) (same-number x) ∙ grind arith)
 
 -- Rising lists.
 

@@ -19,7 +19,7 @@ use Rattle.ec_base.specs.Sorted as sorted
 use Rattle.ec_base.specs.SortedLaws.{first, second, both, none_below, find-without}
 use Rattle.ec_base.specs.Tables.{once}
 use Rattle.ec_volume.specs.Update.{member}
-use Rattle.ec_report.specs.Index.{Rows, ops_of, ops_at, having, Agrees, is_above, without, stripped, gathered, IsDue, AreSeen, fresh}
+use Rattle.ec_report.specs.Index.{Rows, ops_of, ops_at, having, HaveSameMentions, is_above, without_object, stripped, gathered, IsDue, AreSeen, fresh}
 use Rattle.ec_report.specs.Report.{Owed, pairs_of, owe, clear, due}
 use Rattle.ec_report.specs.OwedOrder.{come_behind}
 use Rattle.ec_report.proofs.Lists.{fresh_more, fresh-append, member_alike, member-append, member-without, without_absent, without_twice, above_absent, same_rising}
@@ -123,8 +123,8 @@ put_above op objs (r ∷ rs) h a =
     split true n xs ys = refl
     split false n xs ys = refl
 
-pub agrees_added : (op : ℕ) (objs : List ℕ) (rows places rows' places' : Rows) → Agrees rows places → is_above op rows ≡ true → rows' ≡ put nat_cmp op objs rows
-    → ((x : ℕ) → ops_at x places' ≡ ops_at x places ++ cond (member x objs) (op ∷ []) []) → Agrees rows' places'
+pub agrees_added : (op : ℕ) (objs : List ℕ) (rows places rows' places' : Rows) → HaveSameMentions rows places → is_above op rows ≡ true → rows' ≡ put nat_cmp op objs rows
+    → ((x : ℕ) → ops_at x places' ≡ ops_at x places ++ cond (member x objs) (op ∷ []) []) → HaveSameMentions rows' places'
 agrees_added op objs rows places rows' places' agrees above is noted = record {
   rising = subst (λ l. T (is_sorted nat_cmp l)) (sym is) (is_sorted-put nat_cmp nat_cmp_total op objs rows agrees.rising);
   alike = λ x. noted x ∙ ap (λ l. l ++ cond (member x objs) (op ∷ []) []) (agrees.alike x) ∙ sym ((put_above op objs rows agrees.rising above).1 x) ∙ ap (having x) (sym is);
@@ -149,11 +149,11 @@ member-having x n (r ∷ rs) h = go (n == r.0) refl (member x r.1) refl (member-
         front true q = ap (λ c. member n (cond c (r.0 ∷ having x rs) (having x rs))) q ∙ ap (λ c. c || member n (having x rs)) p
         front false q = ap (λ c. member n (cond c (r.0 ∷ having x rs) (having x rs))) q
 
-found-stripped : (x n : ℕ) (rs : Rows) → find nat_cmp n (stripped x rs) ≡ option_map (without x) (find nat_cmp n rs)
+found-stripped : (x n : ℕ) (rs : Rows) → find nat_cmp n (stripped x rs) ≡ option_map (without_object x) (find nat_cmp n rs)
 found-stripped x n [] = refl
 found-stripped x n (r ∷ rs) = go (eq_by_cmp nat_cmp n r.0) (found-stripped x n rs)
   where
-    go : (b : Bool) → find nat_cmp n (stripped x rs) ≡ option_map (without x) (find nat_cmp n rs) → cond b (Some (without x r.1)) (find nat_cmp n (stripped x rs)) ≡ option_map (without x) (cond b (Some r.1) (find nat_cmp n rs))
+    go : (b : Bool) → find nat_cmp n (stripped x rs) ≡ option_map (without_object x) (find nat_cmp n rs) → cond b (Some (without_object x r.1)) (find nat_cmp n (stripped x rs)) ≡ option_map (without_object x) (cond b (Some r.1) (find nat_cmp n rs))
     go true e = refl
     go false e = e
 
@@ -167,11 +167,11 @@ sorted-stripped x (r ∷ rs) h = both _ _ (below r.0 rs (first _ _ h)) (sorted-s
 
 -- the rows of these operations have lost the object
 pub Stripping : ℕ → List ℕ → Rows → Rows → Type 0
-Stripping x ops old new = (n : ℕ) → find nat_cmp n new ≡ option_map (λ os. cond (member n ops) (without x os) os) (find nat_cmp n old)
+Stripping x ops old new = (n : ℕ) → find nat_cmp n new ≡ option_map (λ os. cond (member n ops) (without_object x os) os) (find nat_cmp n old)
 
 pub strip_one : (op x : ℕ) (e left : List ℕ) (objs : List ℕ) (old middle new : Rows) (was again : Option (List ℕ)) → was ≡ find nat_cmp op old → was ≡ Some objs → OnSome was (middle ≡ put nat_cmp op e old)
-    → again ≡ find nat_cmp op middle → OnSome again (new ≡ put nat_cmp op left middle) → left ≡ without x objs → T (is_sorted nat_cmp old)
-    → T (is_sorted nat_cmp new) × ((n : ℕ) → find nat_cmp n new ≡ option_map (λ os. cond (n == op) (without x os) os) (find nat_cmp n old))
+    → again ≡ find nat_cmp op middle → OnSome again (new ≡ put nat_cmp op left middle) → left ≡ without_object x objs → T (is_sorted nat_cmp old)
+    → T (is_sorted nat_cmp new) × ((n : ℕ) → find nat_cmp n new ≡ option_map (λ os. cond (n == op) (without_object x os) os) (find nat_cmp n old))
 strip_one op x e left objs old middle new was again found is took found-again put-again left-is sorted' = (
   subst (λ l. T (is_sorted nat_cmp l)) (sym new-is) (is_sorted-put nat_cmp nat_cmp_total op left middle (subst (λ l. T (is_sorted nat_cmp l)) (sym middle-is) (is_sorted-put nat_cmp nat_cmp_total op e old sorted'))),
   λ n. ap (find nat_cmp n) new-is ∙ found-put n op left middle ∙ go n (n == op) refl,
@@ -189,8 +189,8 @@ strip_one op x e left objs old middle new was again found is took found-again pu
     there : find nat_cmp op old ≡ Some objs
     there = sym found ∙ is
 
-    go : (n : ℕ) (b : Bool) → (n == op) ≡ b → cond b (Some left) (find nat_cmp n middle) ≡ option_map (λ os. cond b (without x os) os) (find nat_cmp n old)
-    go n true p = ap Some left-is ∙ sym (ap (option_map (without x)) (ap (λ m. find nat_cmp m old) (eqb-true n op p) ∙ there))
+    go : (n : ℕ) (b : Bool) → (n == op) ≡ b → cond b (Some left) (find nat_cmp n middle) ≡ option_map (λ os. cond b (without_object x os) os) (find nat_cmp n old)
+    go n true p = ap Some left-is ∙ sym (ap (option_map (without_object x)) (ap (λ m. find nat_cmp m old) (eqb-true n op p) ∙ there))
     go n false p = ap (find nat_cmp n) middle-is ∙ found-put n op e old ∙ ap (λ b. cond b (Some e) (find nat_cmp n old)) p ∙ sym (same (find nat_cmp n old))
       where
         same : (o : Option (List ℕ)) → option_map (λ os. os) o ≡ o
@@ -205,21 +205,21 @@ stripping_none x old n = go (find nat_cmp n old)
     go None = refl
     go (Some os) = refl
 
-pub stripping_more : (x op : ℕ) (ops : List ℕ) (old middle new : Rows) → Stripping x ops old middle → ((n : ℕ) → find nat_cmp n new ≡ option_map (λ os. cond (n == op) (without x os) os) (find nat_cmp n middle)) → Stripping x (ops ++ op ∷ []) old new
+pub stripping_more : (x op : ℕ) (ops : List ℕ) (old middle new : Rows) → Stripping x ops old middle → ((n : ℕ) → find nat_cmp n new ≡ option_map (λ os. cond (n == op) (without_object x os) os) (find nat_cmp n middle)) → Stripping x (ops ++ op ∷ []) old new
 unfolding Stripping
-stripping_more x op ops old middle new before step n = step n ∙ ap (option_map (λ os. cond (n == op) (without x os) os)) (before n) ∙ go (find nat_cmp n old) (n == op) refl (member n ops) refl
+stripping_more x op ops old middle new before step n = step n ∙ ap (option_map (λ os. cond (n == op) (without_object x os) os)) (before n) ∙ go (find nat_cmp n old) (n == op) refl (member n ops) refl
   where
     whole : member n (ops ++ op ∷ []) ≡ (member n ops || (n == op))
     whole = member-append n ops (op ∷ []) ∙ grind arith
 
-    go : (o : Option (List ℕ)) (a : Bool) → (n == op) ≡ a → (b : Bool) → member n ops ≡ b → option_map (λ os. cond a (without x os) os) (option_map (λ os. cond (member n ops) (without x os) os) o) ≡ option_map (λ os. cond (member n (ops ++ op ∷ [])) (without x os) os) o
+    go : (o : Option (List ℕ)) (a : Bool) → (n == op) ≡ a → (b : Bool) → member n ops ≡ b → option_map (λ os. cond a (without_object x os) os) (option_map (λ os. cond (member n ops) (without_object x os) os) o) ≡ option_map (λ os. cond (member n (ops ++ op ∷ [])) (without_object x os) os) o
     go None a p b q = refl
-    go (Some os) true p true q = let has : member n (ops ++ op ∷ []) ≡ true = whole ∙ grind (arith, p, q) in ap (λ c. Some (without x (cond c (without x os) os))) q ∙ ap Some (without_twice x os) ∙ sym (ap (λ c. Some (cond c (without x os) os)) has)
-    go (Some os) true p false q = let has : member n (ops ++ op ∷ []) ≡ true = whole ∙ grind (arith, p, q) in ap (λ c. Some (without x (cond c (without x os) os))) q ∙ sym (ap (λ c. Some (cond c (without x os) os)) has)
-    go (Some os) false p b q = let has : member n (ops ++ op ∷ []) ≡ member n ops = whole ∙ grind (arith, p) in ap (λ c. Some (cond c (without x os) os)) (sym has)
+    go (Some os) true p true q = let has : member n (ops ++ op ∷ []) ≡ true = whole ∙ grind (arith, p, q) in ap (λ c. Some (without_object x (cond c (without_object x os) os))) q ∙ ap Some (without_twice x os) ∙ sym (ap (λ c. Some (cond c (without_object x os) os)) has)
+    go (Some os) true p false q = let has : member n (ops ++ op ∷ []) ≡ true = whole ∙ grind (arith, p, q) in ap (λ c. Some (without_object x (cond c (without_object x os) os))) q ∙ sym (ap (λ c. Some (cond c (without_object x os) os)) has)
+    go (Some os) false p b q = let has : member n (ops ++ op ∷ []) ≡ member n ops = whole ∙ grind (arith, p) in ap (λ c. Some (cond c (without_object x os) os)) (sym has)
 
 pub stripping_next : (x i op : ℕ) (ops : List ℕ) (old middle new : Rows) → i < length ops → op ≡ get_or ops i op → Stripping x (take i ops) old middle
-    → ((n : ℕ) → find nat_cmp n new ≡ option_map (λ os. cond (n == op) (without x os) os) (find nat_cmp n middle)) → Stripping x (take (i + 1) ops) old new
+    → ((n : ℕ) → find nat_cmp n new ≡ option_map (λ os. cond (n == op) (without_object x os) os) (find nat_cmp n middle)) → Stripping x (take (i + 1) ops) old new
 stripping_next x i op ops old middle new within is before step =
     subst (λ l. Stripping x l old new) (sym (take_more ops i op within ∙ ap (λ o. take i ops ++ o ∷ []) (sym is))) (stripping_more x op (take i ops) old middle new before step)
 
@@ -227,16 +227,16 @@ pub all_stripped : (x : ℕ) (ops : List ℕ) (old new : Rows) → T (is_sorted 
 unfolding Stripping
 all_stripped x ops old new h k is done = same_entries nat_cmp nat_cmp_total exact new (stripped x old) k (sorted-stripped x old h) (λ n. done n ∙ go n (find nat_cmp n old) refl ∙ sym (found-stripped x n old))
   where
-    go : (n : ℕ) (o : Option (List ℕ)) → find nat_cmp n old ≡ o → option_map (λ os. cond (member n ops) (without x os) os) o ≡ option_map (without x) o
+    go : (n : ℕ) (o : Option (List ℕ)) → find nat_cmp n old ≡ o → option_map (λ os. cond (member n ops) (without_object x os) os) o ≡ option_map (without_object x) o
     go n None q = refl
     go n (Some os) q = by (member x os) refl
       where
         has : member n ops ≡ member x os
         has = ap (member n) is ∙ member-having x n old h ∙ ap (λ o. member x (ops_of o)) q
 
-        by : (b : Bool) → member x os ≡ b → Some (cond (member n ops) (without x os) os) ≡ Some (without x os)
-        by true p = ap (λ c. Some (cond c (without x os) os)) (has ∙ p)
-        by false p = ap (λ c. Some (cond c (without x os) os)) (has ∙ p) ∙ ap Some (sym (without_absent x os p))
+        by : (b : Bool) → member x os ≡ b → Some (cond (member n ops) (without_object x os) os) ≡ Some (without_object x os)
+        by true p = ap (λ c. Some (cond c (without_object x os) os)) (has ∙ p)
+        by false p = ap (λ c. Some (cond c (without_object x os) os)) (has ∙ p) ∙ ap Some (sym (without_absent x os p))
 
 having-stripped : (x y : ℕ) (rs : Rows) → having y (stripped x rs) ≡ cond (y == x) [] (having y rs)
 having-stripped x y [] = sym (nil (y == x))
@@ -252,7 +252,7 @@ having-stripped x y (r ∷ rs) = ap (λ c. cond c (r.0 ∷ having y (stripped x 
     go false true = refl
     go false false = refl
 
-pub agrees_stripped : (x : ℕ) (rows places rows' places' : Rows) → Agrees rows places → rows' ≡ stripped x rows → places' ≡ sorted.without nat_cmp x places → Agrees rows' places'
+pub agrees_stripped : (x : ℕ) (rows places rows' places' : Rows) → HaveSameMentions rows places → rows' ≡ stripped x rows → places' ≡ sorted.without nat_cmp x places → HaveSameMentions rows' places'
 agrees_stripped x rows places rows' places' agrees is left = record {
   rising = subst (λ l. T (is_sorted nat_cmp l)) (sym is) (sorted-stripped x rows agrees.rising);
   alike = λ y. ap (ops_at y) left ∙ ap ops_of (found-without y x places) ∙ go y (y == x) ∙ sym (ap (having y) is ∙ having-stripped x y rows);
@@ -263,14 +263,14 @@ agrees_stripped x rows places rows' places' agrees is left = record {
     go y false = agrees.alike y
 
 -- an object without mentions has none to lose
-pub strips_nothing : (x : ℕ) (rows places : Rows) → Agrees rows places → find nat_cmp x places ≡ None → rows ≡ stripped x rows
+pub strips_nothing : (x : ℕ) (rows places : Rows) → HaveSameMentions rows places → find nat_cmp x places ≡ None → rows ≡ stripped x rows
 strips_nothing x rows places agrees none = go rows (sym (agrees.alike x) ∙ ap ops_of none)
   where
     go : (rs : Rows) → having x rs ≡ [] → rs ≡ stripped x rs
     go [] e = refl
     go (r ∷ rs) e = by (member x r.1) refl e (go rs)
       where
-        by : (b : Bool) → member x r.1 ≡ b → cond b (r.0 ∷ having x rs) (having x rs) ≡ [] → (having x rs ≡ [] → rs ≡ stripped x rs) → r ∷ rs ≡ (r.0, without x r.1) ∷ stripped x rs
+        by : (b : Bool) → member x r.1 ≡ b → cond b (r.0 ∷ having x rs) (having x rs) ≡ [] → (having x rs ≡ [] → rs ≡ stripped x rs) → r ∷ rs ≡ (r.0, without_object x r.1) ∷ stripped x rs
         by true p e f = absurd (not_nil e)
           where
             not_nil : r.0 ∷ having x rs ≡ [] → ⊥
@@ -281,12 +281,12 @@ pub pairs-stripped : (x : ℕ) (rs : Rows) → pairs_of (stripped x rs) ≡ filt
 pairs-stripped x [] = refl
 pairs-stripped x (r ∷ rs) = go r.1 (pairs-stripped x rs)
   where
-    go : (os : List ℕ) → pairs_of (stripped x rs) ≡ filter (λ q. not (q.1 == x)) (pairs_of rs) → map (λ o. (r.0, o)) (without x os) ++ pairs_of (stripped x rs) ≡ filter (λ (q : ℕ × ℕ). not (q.1 == x)) (map (λ o. (r.0, o)) os ++ pairs_of rs)
+    go : (os : List ℕ) → pairs_of (stripped x rs) ≡ filter (λ q. not (q.1 == x)) (pairs_of rs) → map (λ o. (r.0, o)) (without_object x os) ++ pairs_of (stripped x rs) ≡ filter (λ (q : ℕ × ℕ). not (q.1 == x)) (map (λ o. (r.0, o)) os ++ pairs_of rs)
     go [] rest = rest
     go (o ∷ os) rest = by (o == x) (go os rest)
       where
-        by : (b : Bool) → map (λ o. (r.0, o)) (without x os) ++ pairs_of (stripped x rs) ≡ filter (λ (q : ℕ × ℕ). not (q.1 == x)) (map (λ o. (r.0, o)) os ++ pairs_of rs)
-            → map (λ o. (r.0, o)) (cond (not b) (o ∷ without x os) (without x os)) ++ pairs_of (stripped x rs) ≡ cond (not b) ((r.0, o) ∷ filter (λ (q : ℕ × ℕ). not (q.1 == x)) (map (λ o. (r.0, o)) os ++ pairs_of rs)) (filter (λ (q : ℕ × ℕ). not (q.1 == x)) (map (λ o. (r.0, o)) os ++ pairs_of rs))
+        by : (b : Bool) → map (λ o. (r.0, o)) (without_object x os) ++ pairs_of (stripped x rs) ≡ filter (λ (q : ℕ × ℕ). not (q.1 == x)) (map (λ o. (r.0, o)) os ++ pairs_of rs)
+            → map (λ o. (r.0, o)) (cond (not b) (o ∷ without_object x os) (without_object x os)) ++ pairs_of (stripped x rs) ≡ cond (not b) ((r.0, o) ∷ filter (λ (q : ℕ × ℕ). not (q.1 == x)) (map (λ o. (r.0, o)) os ++ pairs_of rs)) (filter (λ (q : ℕ × ℕ). not (q.1 == x)) (map (λ o. (r.0, o)) os ++ pairs_of rs))
         by true e = e
         by false e = ap (λ l. (r.0, o) ∷ l) e
 
@@ -343,7 +343,7 @@ unfolding meeting
 due-meeting touched [] h = refl
 due-meeting touched (r ∷ rs) h = go r.1 (due-meeting touched rs (second _ _ h))
   where
-    apart : without r.0 (meeting touched rs) ≡ meeting touched rs
+    apart : without_object r.0 (meeting touched rs) ≡ meeting touched rs
     apart = without_absent r.0 (meeting touched rs) (above_absent r.0 (meeting touched rs) (above-meeting touched r.0 rs (first _ _ h)))
 
     go : (os : List ℕ) → due touched (pairs_of rs) ≡ meeting touched rs → due touched (map (λ x. (r.0, x)) os ++ pairs_of rs) ≡ cond (list_any (λ y. member y touched) os) (r.0 ∷ meeting touched rs) (meeting touched rs)
@@ -353,9 +353,9 @@ due-meeting touched (r ∷ rs) h = go r.1 (due-meeting touched rs (second _ _ h)
         l : List ℕ
         l = map (λ (q : ℕ × ℕ). q.0) (filter (λ (q : ℕ × ℕ). member q.1 touched) (map (λ x. (r.0, x)) os ++ pairs_of rs))
 
-        once_more : (b : Bool) → once l ≡ cond b (r.0 ∷ meeting touched rs) (meeting touched rs) → r.0 ∷ without r.0 (once l) ≡ r.0 ∷ meeting touched rs
-        once_more true e = ap (λ z. r.0 ∷ without r.0 z) e ∙ ap (λ b. r.0 ∷ cond (not b) (r.0 ∷ without r.0 (meeting touched rs)) (without r.0 (meeting touched rs))) (itself r.0) ∙ ap (λ z. r.0 ∷ z) apart
-        once_more false e = ap (λ z. r.0 ∷ without r.0 z) e ∙ ap (λ z. r.0 ∷ z) apart
+        once_more : (b : Bool) → once l ≡ cond b (r.0 ∷ meeting touched rs) (meeting touched rs) → r.0 ∷ without_object r.0 (once l) ≡ r.0 ∷ meeting touched rs
+        once_more true e = ap (λ z. r.0 ∷ without_object r.0 z) e ∙ ap (λ b. r.0 ∷ cond (not b) (r.0 ∷ without_object r.0 (meeting touched rs)) (without_object r.0 (meeting touched rs))) (itself r.0) ∙ ap (λ z. r.0 ∷ z) apart
+        once_more false e = ap (λ z. r.0 ∷ without_object r.0 z) e ∙ ap (λ z. r.0 ∷ z) apart
 
         by : (b : Bool) → due touched (map (λ x. (r.0, x)) os ++ pairs_of rs) ≡ cond (list_any (λ y. member y touched) os) (r.0 ∷ meeting touched rs) (meeting touched rs)
             → once (map (λ (q : ℕ × ℕ). q.0) (cond b ((r.0, o) ∷ filter (λ (q : ℕ × ℕ). member q.1 touched) (map (λ x. (r.0, x)) os ++ pairs_of rs)) (filter (λ (q : ℕ × ℕ). member q.1 touched) (map (λ x. (r.0, x)) os ++ pairs_of rs))))
@@ -375,7 +375,7 @@ any-swap (x ∷ xs) ys = ap (λ b. member x ys || b) (any-swap xs ys) ∙ go ys
     go [] = refl
     go (y ∷ l) = grind (arith, go l, turned x y)
 
-members : (touched : List ℕ) (rows places : Rows) → Agrees rows places → (n : ℕ) → member n (gathered touched places) ≡ list_any (λ x. member x (ops_of (find nat_cmp n rows))) touched
+members : (touched : List ℕ) (rows places : Rows) → HaveSameMentions rows places → (n : ℕ) → member n (gathered touched places) ≡ list_any (λ x. member x (ops_of (find nat_cmp n rows))) touched
 members [] rows places agrees n = refl
 members (x ∷ xs) rows places agrees n =
     member-append n (ops_at x places) (gathered xs places)
@@ -495,7 +495,7 @@ seen_old list list' objs seen seen' i x all are within is there same-seen same b
     left : drop i objs ≡ x ∷ drop (i + 1) objs
     left = drop-cons objs i x within ∙ (λ k. sym is k ∷ drop (sym (add-one i) k) objs)
 
-pub due_is : (touched : List ℕ) (rows places : Rows) (ops : List ℕ) → Agrees rows places → IsDue touched places ops → ops ≡ due touched (pairs_of rows)
+pub due_is : (touched : List ℕ) (rows places : Rows) (ops : List ℕ) → HaveSameMentions rows places → IsDue touched places ops → ops ≡ due touched (pairs_of rows)
 due_is touched rows places ops agrees found =
     same_rising ops (meeting touched rows) (rises_from ops found.rising) (rises-meeting touched rows agrees.rising)
     (λ n. found.members n ∙ members touched rows places agrees n ∙ any-swap touched (ops_of (find nat_cmp n rows)) ∙ sym (member-meeting touched n rows agrees.rising))

@@ -25,7 +25,7 @@ having x [] = []
 having x (r ∷ rs) = if member x r.1 then r.0 ∷ having x rs else having x rs
 
 -- both maps have the same mentions
-pub record Agrees (rows : Rows) (places : Rows) : Type 0 where
+pub record HaveSameMentions (rows : Rows) (places : Rows) : Type 0 where
   pub rising : T (is_sorted nat_cmp rows)
   pub alike : (x : ℕ) → ops_at x places ≡ having x rows
 
@@ -33,13 +33,13 @@ pub record Agrees (rows : Rows) (places : Rows) : Type 0 where
 abbrev pub is_above : ℕ → Rows → Bool
 is_above op rows = list_all (λ q. nat_lt q.0 op) (pairs_of rows)
 
-abbrev pub without : ℕ → List ℕ → List ℕ
-without x objs = filter (λ o. not (o == x)) objs
+abbrev pub without_object : ℕ → List ℕ → List ℕ
+without_object x objs = filter (λ o. not (o == x)) objs
 
 -- the rows without the object
 abbrev pub stripped : ℕ → Rows → Rows
 stripped x [] = []
-stripped x (r ∷ rs) = (r.0, without x r.1) ∷ stripped x rs
+stripped x (r ∷ rs) = (r.0, without_object x r.1) ∷ stripped x rs
 
 -- the operations at these objects
 abbrev pub gathered : List ℕ → Rows → List ℕ

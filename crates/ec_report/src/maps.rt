@@ -5,7 +5,7 @@ ghost use Rattle.std.specs.Option.{option_map};
 ghost use Rattle.std.specs.Ordering.{nat_cmp};
 ghost use Rattle.std.specs.FinMap.{find, put, is_sorted};
 ghost use Rattle.ec_volume.specs.Update.{member};
-ghost use Rattle.ec_report.specs.Index.{Agrees, IsDue, ops_at, without, stripped, is_above, AreSeen, fresh};
+ghost use Rattle.ec_report.specs.Index.{HaveSameMentions, IsDue, ops_at, without_object, stripped, is_above, AreSeen, fresh};
 ghost use Rattle.ec_report.specs.Report as report;
 
 use ec_base::{Duplicate, List, NoMemory, ObjId, OpNo, SortedMap};
@@ -25,10 +25,10 @@ pub fn add(
     op: OpNo,
     objs: &List<ObjId>,
 ) -> Result<(), NoMemory>
-    requires agrees { Agrees rows.old places.old }
+    requires agrees { HaveSameMentions rows.old places.old }
     requires above { is_above op rows.old ≡ true }
     ensures rows { OnOk result (rows.new ≡ put nat_cmp op objs.now rows.old) }
-    ensures agrees { OnOk result (Agrees rows.new places.new) }
+    ensures agrees { OnOk result (HaveSameMentions rows.new places.new) }
 {
     note_all(alloc, places, op, objs.as_slice())?;
     rows.insert(op, objs.duplicate()?)
@@ -85,9 +85,9 @@ pub fn due(alloc: Global, places: &Places, touched: &[ObjId]) -> Result<Vec<OpNo
 
 /// Forgets the mentions of these objects.
 pub fn forget_all(alloc: Global, rows: &mut Rows, places: &mut Places, touched: &[ObjId])
-    requires agrees { Agrees rows.old places.old }
+    requires agrees { HaveSameMentions rows.old places.old }
     ensures pairs { report.pairs_of rows.new ≡ report.clear touched.now (report.pairs_of rows.old) }
-    ensures agrees { Agrees rows.new places.new }
+    ensures agrees { HaveSameMentions rows.new places.new }
 {
     for obj in touched {
         forget(alloc, rows, places, *obj);
@@ -96,9 +96,9 @@ pub fn forget_all(alloc: Global, rows: &mut Rows, places: &mut Places, touched: 
 
 // Forgets the mentions of an object.
 fn forget(alloc: Global, rows: &mut Rows, places: &mut Places, obj: ObjId)
-    requires agrees { Agrees rows.old places.old }
+    requires agrees { HaveSameMentions rows.old places.old }
     ensures rows { rows.new ≡ stripped obj rows.old }
-    ensures agrees { Agrees rows.new places.new }
+    ensures agrees { HaveSameMentions rows.new places.new }
 {
     if let Some(ops) = places.remove(&obj) {
         for op in ops.as_slice() {
@@ -111,7 +111,7 @@ fn forget(alloc: Global, rows: &mut Rows, places: &mut Places, obj: ObjId)
 fn strip(alloc: Global, rows: &mut Rows, op: OpNo, obj: ObjId)
     requires { T (is_sorted nat_cmp rows.old) }
     ensures sorted { T (is_sorted nat_cmp rows.new) }
-    ensures found { (n : ℕ) → find nat_cmp n rows.new ≡ option_map (λ objs. if n == op then without obj objs else objs) (find nat_cmp n rows.old) }
+    ensures found { (n : ℕ) → find nat_cmp n rows.new ≡ option_map (λ objs. if n == op then without_object obj objs else objs) (find nat_cmp n rows.old) }
 {
     if let Some(objs) = rows.replace(&op, List::of(Vec::new(alloc))) {
         let mut left = objs.into_vec();

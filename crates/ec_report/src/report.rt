@@ -34,13 +34,13 @@ impl Drop for Report {
 impl Model for Report {
     ghost use Rattle.std.specs.Prelude.{List, ℕ};
     ghost use Rattle.ec_report.specs.Report.{pairs_of};
-    ghost use Rattle.ec_report.specs.Index.{Agrees};
+    ghost use Rattle.ec_report.specs.Index.{HaveSameMentions};
 
     ghost Value = { List (ℕ × ℕ) };
 
     ghost view = { λ r. pairs_of r.rows };
 
-    ghost invariant = { λ r. Agrees r.rows r.places };
+    ghost invariant = { λ r. HaveSameMentions r.rows r.places };
 }
 
 impl Report {

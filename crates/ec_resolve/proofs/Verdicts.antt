@@ -19,7 +19,7 @@ use Rattle.ec_plain.specs.declared.call.Outcome.{Outcome}
 use Rattle.ec_cache.specs.Cache.{holds, images_held}
 use Rattle.ec_cache.specs.declared.state.CacheState.{CacheState}
 use Rattle.ec_report.specs.Report.{Owed, due, objects}
-use Rattle.ec_resolve.specs.Agreement.{Agree, Shows, IsFor, IsFirst, is_unread, is_unwritten, AreTouchedBy, AreTouched, IsRead, IsOwed, IsClear, IsUnwritten, IsNeeded, IsWithoutId, IsReady}
+use Rattle.ec_resolve.specs.Agreement.{Agree, Shows, IsFor, IsFirst, is_unread, is_unwritten, AreTouchedBy, AreTouched, AllIsRead, IsOwed, IsClear, IsUnwritten, IsNeeded, IsWithoutId, IsReady}
 use Rattle.ec_resolve.specs.Resolve.{outcome, lacks_id, seen, first_unread, asked, first_unwritten, lacking, met, reported, evaluate}
 use Rattle.ec_resolve.specs.declared.verdict.Verdict.{Verdict}
 use Rattle.ec_resolve.specs.declared.verdict.Verdict.TheVariants.{Need, Lost, NeedIds, Done}
@@ -218,7 +218,7 @@ module _ (k : CacheState) (owed : Owed) (cl : Call) (fresh : Option ℕ) where
     stands : first_unread k fresh xs ≡ None → Stands (images_held k) v cl fresh id
     stands e = stands-there (images_held k) v cl fresh id f (λ o t. alike o (all-read e o t))
 
-    read : first_unread k fresh xs ≡ None → IsRead k fresh id there xs
+    read : first_unread k fresh xs ≡ None → AllIsRead k fresh id there xs
     read e = record {
       touched = elim (stands e) [
         | inl q ↦ touched-by fresh id there xs false (ap (λ o. lacks_id fresh o.update) q.0 ∙ q.1) (ap (λ o. o.touched) q.0 ∙ ap (λ b. seen b out.touched) (sym q.1))

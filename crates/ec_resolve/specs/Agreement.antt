@@ -52,14 +52,14 @@ abbrev pub AreTouched : Option ℕ → ℕ → Outcome → List ℕ → Type 0
 AreTouched fresh id out xs = AreTouchedBy id out xs (lacks_id fresh out.update)
 
 -- All that the call touches is held for reading.
-pub record IsRead (k : CacheState) (fresh : Option ℕ) (id : ℕ) (out : Outcome) (xs : List ℕ) : Type 0 where
+pub record AllIsRead (k : CacheState) (fresh : Option ℕ) (id : ℕ) (out : Outcome) (xs : List ℕ) : Type 0 where
   pub touched : AreTouched fresh id out xs
   pub held : (x : ℕ) → T (member x xs) → is_unread k fresh x ≡ false
 
 -- Something is owed on what the call meets: these objects, and these operations.
 pub record IsOwed (k : CacheState) (owed : Owed) (cl : Call) (fresh : Option ℕ) (id : ℕ) (out : Outcome) (ns xs : List ℕ) : Type 0 where
   pub touched : List ℕ
-  pub read : IsRead k fresh id out touched
+  pub read : AllIsRead k fresh id out touched
   pub shown : xs ≡ met owed cl touched
   pub reported : ns ≡ due xs owed
   pub some : ns ≢ []
@@ -67,7 +67,7 @@ pub record IsOwed (k : CacheState) (owed : Owed) (cl : Call) (fresh : Option ℕ
 -- All that the call touches is held for reading, and nothing is owed on what it meets.
 pub record IsClear (k : CacheState) (owed : Owed) (cl : Call) (fresh : Option ℕ) (id : ℕ) (out : Outcome) : Type 0 where
   pub touched : List ℕ
-  pub read : IsRead k fresh id out touched
+  pub read : AllIsRead k fresh id out touched
   pub unowed : due (met owed cl touched) owed ≡ []
 
 -- The object is the first that the call's update has to write and that isn't held for writing.

@@ -13,7 +13,7 @@ use Rattle.ec_protocol.specs.World.{open_world}
 use Rattle.ec_protocol.specs.declared.world.World.{World}
 use Rattle.ec_lawful.specs.DrillRuns.{AreFit, Closed}
 use Rattle.ec_lawful.specs.Headline as headline
-use Rattle.ec_lawful.specs.Steps.{Holds}
+use Rattle.ec_lawful.specs.Steps.{HoldsIn}
 use Rattle.ec_lawful.proofs.Drills.{drills-on}
 use Rattle.ec_lawful.proofs.Worlds.{no-calls, no-lines}
 use Rattle.ec_rooms.specs.Rooms.{AreWithinRoom}
@@ -48,7 +48,7 @@ module _ (reads : List Read) (fates : List Fates) (d : Durable) (wf : WellFormed
     closed =
         drills-on (K d.max_objects (images d.volume)) (room-kept d.max_objects (images d.volume)) reads fates w (opened-room d wf sixteen gone w q) (no-calls d wf sixteen gone w q) (no-lines d wf sixteen gone w q) fit
 
-    world-within : Holds (K d.max_objects (images d.volume)) r.world → AreWithinRoom d.max_objects r.world.shown
+    world-within : HoldsIn (K d.max_objects (images d.volume)) r.world → AreWithinRoom d.max_objects r.world.shown
     world-within (g, k, st) = subst (AreWithinRoom d.max_objects) (sym st.shown) k.1.lines
 
     run-within : AreWithinRoom d.max_objects (machine.joined r.pieces ++ last_line r.ending)

@@ -50,7 +50,7 @@ use Rattle.ec_lawful.specs.Doubts.{ComesFrom, DoubtAgrees, doubted}
 use Rattle.ec_lawful.specs.Founds.{Makes, bare, found_ghost, started_in, with_found}
 use Rattle.ec_lawful.specs.Olds.{opened_in, opened_state}
 use Rattle.ec_lawful.specs.Runs.{OfRun}
-use Rattle.ec_lawful.specs.Steps.{Holds, IsDone, IsNew, IsServed, StepsKeep, begun, calling, in_call}
+use Rattle.ec_lawful.specs.Steps.{HoldsIn, StepIsDone, LineIsNew, IsServed, StepsKeep, clerk_begun, calling, in_call}
 use Rattle.ec_lawful.specs.Ties.{called, waiting}
 use Rattle.ec_lawful.proofs.Clerks.{clerks-keep-all}
 use Rattle.ec_lawful.proofs.Founds.{found-shown, steps-so}
@@ -301,7 +301,7 @@ module _ (most : ℕ) where
 
     -- Clerks.
 
-    done-room : (h : System) (c b : ℕ) (d : Doing) → HasRoom h → (counts : Option (ℕ × ℕ)) → ((l r : ℕ) → counts ≡ Some (l, r) → l + r ≤ most) → Each (PassesOn counts) d.outs → IsDone F h c b d → IsDone K h c b d
+    done-room : (h : System) (c b : ℕ) (d : Doing) → HasRoom h → (counts : Option (ℕ × ℕ)) → ((l r : ℕ) → counts ≡ Some (l, r) → l + r ≤ most) → Each (PassesOn counts) d.outs → StepIsDone F h c b d → StepIsDone K h c b d
     done-room h c b d r counts fit outs (inl s) = inl s
     done-room h c b d r counts fit outs (inr (γ, shown, f)) = inr (
       γ,
@@ -318,11 +318,11 @@ module _ (most : ℕ) where
       ),
     )
 
-    messages-room : (g : System) (c b : ℕ) (k : Clerk) → K g → g.running c ≡ Some b → g.clerks c b ≡ Some k → (m : Msg) → Contains g.pool (c, m) → IsDone K g c b (take_message m k)
+    messages-room : (g : System) (c b : ℕ) (k : Clerk) → K g → g.running c ≡ Some b → g.clerks c b ≡ Some k → (m : Msg) → Contains g.pool (c, m) → StepIsDone K g c b (take_message m k)
     messages-room g c b k r run there m p =
         done-room g c b (take_message m k) r.1 (counts_in m) (counts-fit m (each-of {A = ℕ × Msg} Within g.pool (c, m) r.1.pool p)) (takes-pass m k) (steps.messages g c b k r.0 run there m p)
 
-    begun-room : (g : System) (c : ℕ) → HasRoom g → HasRoom (begun c g)
+    begun-room : (g : System) (c : ℕ) → HasRoom g → HasRoom (clerk_begun c g)
     begun-room g c h = record { order = h.order; doubt = h.doubt; good = h.good; pool = h.pool; lines = h.lines }
 
     pub room-kept : StepsKeep K
@@ -339,7 +339,7 @@ module _ (most : ℕ) where
       calls = λ g c b k r run there l cl new bounded. done-room (in_call c l cl k g) c b (begin cl k) (in-call-room g c l cl k r.1) None no-counts (begin-own None cl k) (steps.calls g c b k r.0 run there l cl new bounded);
       starts = λ g c r idle within l cl new bounded spare. (
           let d = start_clerk c (g.boots c + 1) in
-          done-room (in_call c l cl d.clerk (begun c g)) c (g.boots c + 1) (calling cl d.outs d.clerk) (in-call-room (begun c g) c l cl d.clerk (begun-room g c r.1)) None no-counts
+          done-room (in_call c l cl d.clerk (clerk_begun c g)) c (g.boots c + 1) (calling cl d.outs d.clerk) (in-call-room (clerk_begun c g) c l cl d.clerk (begun-room g c r.1)) None no-counts
           (each-more (PassesOn None) d.outs (begin cl d.clerk).outs (start-own None c (g.boots c + 1)) (begin-own None cl d.clerk)) (steps.starts g c r.0 idle within l cl new bounded spare));
       crashes = λ g k c. (steps.crashes g k.0 c, record { order = k.1.order; doubt = k.1.doubt; good = k.1.good; pool = k.1.pool; lines = each-line W g.ghost.shown (show.Crashed c ∷ []) k.1.lines (tt, tt) });
       nothing = λ g k. (steps.nothing g k.0, lined-room g show.Nothing tt k.1);
@@ -386,7 +386,7 @@ module _ (d : Durable) (wf : WellFormed d) (sixteen : length d.sessions ≡ 16) 
   stands : Stands w (opened_in d)
   stands = world-stands d sixteen w q
 
-  pub opened-room : Holds (K d.max_objects (images d.volume)) w
+  pub opened-room : HoldsIn (K d.max_objects (images d.volume)) w
   opened-room = (
     opened_in d,
     (

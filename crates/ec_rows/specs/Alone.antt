@@ -8,12 +8,12 @@ use Rattle.ec_history.specs.declared.entry.Answer.TheVariants as answer
 use Rattle.ec_history.specs.declared.shown.Shown.{Shown}
 use Rattle.ec_history.specs.declared.shown.Shown.TheVariants.{Waits, Answered, Durable, Stopped, Started, Bad}
 use Rattle.ec_rows.specs.Clerks.{A}
-use Rattle.ec_rows.specs.Parts.{begun, flushed, synced_files}
+use Rattle.ec_rows.specs.Parts.{first_call, flushed, synced_files}
 
 -- a clerk reads what it wrote
 abbrev pub own_write : List Shown
 own_write =
-    begun (call.Create (codes "f" ∷ []))
+    first_call (call.Create (codes "f" ∷ []))
     ++ Answered 2 A (call.Write (codes "f" ∷ []) 0 (codes "hi")) (answer.Reply reply.Ok) (Some 2)
     ∷ Answered 3 A (call.Read (codes "f" ∷ []) 0 9) (answer.Reply (reply.Data (codes "hi"))) None
     ∷ []
@@ -21,7 +21,7 @@ own_write =
 -- the last line of the script is outside the grammar
 abbrev pub malformed_line : List Shown
 malformed_line =
-    begun (call.Create (codes "f" ∷ []))
+    first_call (call.Create (codes "f" ∷ []))
     ++ Answered 2 A (call.Stat (codes "f" ∷ [])) (answer.Reply (reply.Stat kind.File 420 0 0 0)) None
     ∷ Bad 3 12
     ∷ []
@@ -29,7 +29,7 @@ malformed_line =
 -- each refusal that a few calls meet
 abbrev pub refusals : List Shown
 refusals =
-    begun (call.Create (codes "f" ∷ []))
+    first_call (call.Create (codes "f" ∷ []))
     ++ Answered 2 A (call.Mkdir (codes "d" ∷ [])) (answer.Reply reply.Ok) (Some 2)
     ∷ Answered 3 A (call.Create (codes "d" ∷ codes "x" ∷ [])) (answer.Reply reply.Ok) (Some 3)
     ∷ Answered 4 A (call.Stat (codes "f" ∷ codes "x" ∷ [])) (answer.Reply (reply.Refused (no.NotDir 1))) None
@@ -50,7 +50,7 @@ refusals =
 -- a directory takes the place of an empty one
 abbrev pub replaced_directory : List Shown
 replaced_directory =
-    begun (call.Mkdir (codes "d" ∷ []))
+    first_call (call.Mkdir (codes "d" ∷ []))
     ++ Answered 2 A (call.Mkdir (codes "e" ∷ [])) (answer.Reply reply.Ok) (Some 2)
     ∷ Answered 3 A (call.Rename (codes "d" ∷ []) (codes "e" ∷ [])) (answer.Reply reply.Ok) (Some 3)
     ∷ Answered 4 A (call.List []) (answer.Reply (reply.Names (codes "e" ∷ []))) None
@@ -59,7 +59,7 @@ replaced_directory =
 -- a file gets an owner
 abbrev pub chowned_file : List Shown
 chowned_file =
-    begun (call.Create (codes "f" ∷ []))
+    first_call (call.Create (codes "f" ∷ []))
     ++ Answered 2 A (call.Chown (codes "f" ∷ []) 7) (answer.Reply reply.Ok) (Some 2)
     ∷ Answered 3 A (call.Stat (codes "f" ∷ [])) (answer.Reply (reply.Stat kind.File 420 0 7 0)) None
     ∷ []
@@ -67,7 +67,7 @@ chowned_file =
 -- a write of the last byte that a file may have
 abbrev pub farthest_byte : List Shown
 farthest_byte =
-    begun (call.Create (codes "f" ∷ []))
+    first_call (call.Create (codes "f" ∷ []))
     ++ Answered 2 A (call.Write (codes "f" ∷ []) 65535 (codes "x")) (answer.Reply reply.Ok) (Some 2)
     ∷ Answered 3 A (call.Write (codes "f" ∷ []) 65535 (codes "xy")) (answer.Reply (reply.Refused no.TooLong)) None
     ∷ Answered 4 A (call.Stat (codes "f" ∷ [])) (answer.Reply (reply.Stat kind.File 420 0 0 65536)) None
@@ -77,7 +77,7 @@ farthest_byte =
 -- a directory is not moved below itself
 abbrev pub refused_loop : List Shown
 refused_loop =
-    begun (call.Mkdir (codes "a" ∷ []))
+    first_call (call.Mkdir (codes "a" ∷ []))
     ++ Answered 2 A (call.Mkdir (codes "b" ∷ [])) (answer.Reply reply.Ok) (Some 2)
     ∷ Answered 3 A (call.Rename (codes "a" ∷ []) (codes "b" ∷ codes "a" ∷ [])) (answer.Reply reply.Ok) (Some 3)
     ∷ Answered 4 A (call.Rename (codes "b" ∷ []) (codes "b" ∷ codes "a" ∷ codes "b" ∷ [])) (answer.Reply (reply.Refused no.Loop)) None
@@ -88,7 +88,7 @@ refused_loop =
 -- a file's move becomes durable without an earlier operation on the root
 abbrev pub moved_file : List Shown
 moved_file =
-    begun (call.Mkdir (codes "a" ∷ []))
+    first_call (call.Mkdir (codes "a" ∷ []))
     ++ Answered 2 A (call.Mkdir (codes "b" ∷ [])) (answer.Reply reply.Ok) (Some 2)
     ∷ Answered 3 A (call.Create (codes "a" ∷ codes "f" ∷ [])) (answer.Reply reply.Ok) (Some 3)
     ∷ flushed 4 call.Sync (1 ∷ 2 ∷ 3 ∷ [])
@@ -117,7 +117,7 @@ untied_files =
 -- an fsync of a new file, with these lines before its answer
 abbrev fsynced_over : List Shown → List Shown
 fsynced_over between =
-    begun (call.Create (codes "f" ∷ []))
+    first_call (call.Create (codes "f" ∷ []))
     ++ Waits 3 A (call.Fsync (codes "f" ∷ []))
     ∷ between
     ++ Answered 3 A (call.Fsync (codes "f" ∷ [])) (answer.Reply reply.Ok) None
@@ -128,13 +128,13 @@ abbrev pub closed_gate : List Shown
 closed_gate = fsynced_over (Stopped ∷ Started ∷ Durable A (1 ∷ []) ∷ [])
 
 -- a stop behind the record of an fsync
-abbrev pub open_gate : List Shown
-open_gate = fsynced_over (Stopped ∷ Durable A (1 ∷ []) ∷ Started ∷ [])
+abbrev pub stop_behind_open_gate : List Shown
+stop_behind_open_gate = fsynced_over (Stopped ∷ Durable A (1 ∷ []) ∷ Started ∷ [])
 
 -- two stops, without a loss
 abbrev pub two_stops : List Shown
 two_stops =
-    begun (call.Create (codes "f" ∷ []))
+    first_call (call.Create (codes "f" ∷ []))
     ++ Stopped
     ∷ Stopped
     ∷ Started

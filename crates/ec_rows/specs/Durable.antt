@@ -8,7 +8,7 @@ use Rattle.ec_history.specs.declared.entry.Answer.TheVariants as answer
 use Rattle.ec_history.specs.declared.shown.Shown.{Shown}
 use Rattle.ec_history.specs.declared.shown.Shown.TheVariants.{Waits, Answered, Durable, Ended, Crashed, Stopped, Started}
 use Rattle.ec_rows.specs.Clerks.{A, B}
-use Rattle.ec_rows.specs.Parts.{begun, awaited, crashed, counted_file, synced_directories, overwritten_file, fsynced_first}
+use Rattle.ec_rows.specs.Parts.{first_call, awaited, crashed, counted_file, synced_directories, overwritten_file, fsynced_first}
 
 -- an fsync of one file, and the create of another one is lost
 abbrev pub fsynced_file : List Shown
@@ -27,7 +27,7 @@ seen_by_next_start =
 -- a read of another clerk makes the write durable, and the clerk then answers from what it holds
 abbrev pub recalled_write : List Shown
 recalled_write =
-    begun (call.Create (codes "f" ∷ []))
+    first_call (call.Create (codes "f" ∷ []))
     ++ Answered 2 A (call.Write (codes "f" ∷ []) 0 (codes "hi")) (answer.Reply reply.Ok) (Some 2)
     ∷ Answered 3 A (call.Create (codes "g" ∷ [])) (answer.Reply reply.Ok) (Some 3)
     ∷ Waits 4 B (call.Read (codes "f" ∷ []) 0 9)

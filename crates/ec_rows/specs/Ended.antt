@@ -8,7 +8,7 @@ use Rattle.ec_history.specs.declared.entry.Answer.TheVariants as answer
 use Rattle.ec_history.specs.declared.shown.Shown.{Shown}
 use Rattle.ec_history.specs.declared.shown.Shown.TheVariants.{Waits, Answered, Durable, Ended, Unseen, Told, Crashed, Stopped, Started}
 use Rattle.ec_rows.specs.Clerks.{A, B}
-use Rattle.ec_rows.specs.Parts.{begun, awaited, flushed, synced_files, numbers_from, made_from}
+use Rattle.ec_rows.specs.Parts.{first_call, awaited, flushed, synced_files, numbers_from, made_from}
 use Rattle.ec_rows.specs.WrongReplies.{stat_of_lost}
 
 -- a start sees that the create of the one before it is lost
@@ -18,7 +18,7 @@ lost_create = stat_of_lost (reply.Refused (no.NotFound 1))
 -- a start sees that the create and the write of the one before it are lost
 abbrev pub lost_write : List Shown
 lost_write =
-    begun (call.Create (codes "f" ∷ []))
+    first_call (call.Create (codes "f" ∷ []))
     ++ Answered 2 A (call.Write (codes "f" ∷ []) 0 (codes "hi")) (answer.Reply reply.Ok) (Some 2)
     ∷ Crashed A
     ∷ Waits 4 A (call.Read (codes "f" ∷ []) 0 9)
@@ -29,7 +29,7 @@ lost_write =
 -- a session ends while its clerk is cut off and answers
 abbrev pub late_read : List Shown
 late_read =
-    begun (call.Create (codes "f" ∷ []))
+    first_call (call.Create (codes "f" ∷ []))
     ++ Answered 2 A (call.Write (codes "f" ∷ []) 0 (codes "one")) (answer.Reply reply.Ok) (Some 2)
     ∷ flushed 3 call.Sync (1 ∷ 2 ∷ [])
     ++ Answered 5 A (call.Write (codes "f" ∷ []) 0 (codes "two")) (answer.Reply reply.Ok) (Some 3)
@@ -47,7 +47,7 @@ late_read =
 -- the session of a clerk that is cut off ends behind a restart
 abbrev pub ended_behind_restart : List Shown
 ended_behind_restart =
-    begun (call.Create (codes "f" ∷ []))
+    first_call (call.Create (codes "f" ∷ []))
     ++ flushed 2 call.Sync (1 ∷ [])
     ++ awaited 3 B (call.Write (codes "f" ∷ []) 0 (codes "x")) (answer.Reply reply.Ok) (Some 1)
     ++ Stopped
@@ -75,7 +75,7 @@ lost_rename =
 -- a restart finds that a session ended
 abbrev pub found_at_restart : List Shown
 found_at_restart =
-    begun (call.Create (codes "f" ∷ []))
+    first_call (call.Create (codes "f" ∷ []))
     ++ Stopped
     ∷ Ended A (1 ∷ [])
     ∷ Started
@@ -87,7 +87,7 @@ found_at_restart =
 -- an answer of a second start, whose session has ended
 abbrev pub second_start : List Shown
 second_start =
-    begun (call.Create (codes "f" ∷ []))
+    first_call (call.Create (codes "f" ∷ []))
     ++ Crashed A
     ∷ Waits 4 A (call.Stat [])
     ∷ Ended A (1 ∷ [])
@@ -118,7 +118,7 @@ unseen_start =
 -- the ids reserved for one clerk leave none for another one
 abbrev pub reserved_ids : List Shown
 reserved_ids =
-    begun (call.Create (codes "a" ∷ []))
+    first_call (call.Create (codes "a" ∷ []))
     ++ Waits 2 B (call.Create (codes "b" ∷ []))
     ∷ Durable A (1 ∷ [])
     ∷ Answered 2 B (call.Create (codes "b" ∷ [])) (answer.NoRoom 2 15) None

@@ -7,18 +7,18 @@ use Rattle.ec_history.specs.declared.entry.Answer.TheVariants as answer
 use Rattle.ec_history.specs.declared.shown.Shown.{Shown}
 use Rattle.ec_history.specs.declared.shown.Shown.TheVariants.{Waits, Answered, Durable}
 use Rattle.ec_rows.specs.Clerks.{A, B}
-use Rattle.ec_rows.specs.Parts.{begun, awaited, numbers_from, numbered, made_from}
+use Rattle.ec_rows.specs.Parts.{first_call, awaited, numbers_from, lettered, made_from}
 
 -- sixteen new files in a directory, of which the first, on this line, waits for ids
 abbrev sixteen_behind : ℕ → List Shown
 sixteen_behind n =
-    Waits (n + 1) A (call.Create (codes "d" ∷ numbered (codes "f") n ∷ []))
+    Waits (n + 1) A (call.Create (codes "d" ∷ lettered (codes "f") n ∷ []))
     ∷ made_from (codes "d" ∷ []) 16 n (n + 1)
 
 -- a directory of 128 entries
 abbrev pub full_directory : List Shown
 full_directory =
-    begun (call.Mkdir (codes "d" ∷ []))
+    first_call (call.Mkdir (codes "d" ∷ []))
     ++ made_from (codes "d" ∷ []) 15 1 2
     ++ sixteen_behind 16
     ++ sixteen_behind 32
@@ -39,18 +39,18 @@ abbrev renamed_from : ℕ → ℕ → ℕ → List Shown
 renamed_from zero n line = []
 renamed_from (suc k) n line =
     Answered line A (call.Create (codes "src" ∷ codes "t" ∷ [])) (answer.Reply reply.Ok) (Some line)
-    ∷ Answered (line + 1) A (call.Write (codes "src" ∷ codes "t" ∷ []) 0 (numbered (codes "v") n)) (answer.Reply reply.Ok) (Some (line + 1))
-    ∷ Answered (line + 2) A (call.Rename (codes "src" ∷ codes "t" ∷ []) (codes "src" ∷ numbered (codes "f") n ∷ [])) (answer.Reply reply.Ok) (Some (line + 2))
+    ∷ Answered (line + 1) A (call.Write (codes "src" ∷ codes "t" ∷ []) 0 (lettered (codes "v") n)) (answer.Reply reply.Ok) (Some (line + 1))
+    ∷ Answered (line + 2) A (call.Rename (codes "src" ∷ codes "t" ∷ []) (codes "src" ∷ lettered (codes "f") n ∷ [])) (answer.Reply reply.Ok) (Some (line + 2))
     ∷ renamed_from k (n + 1) (line + 3)
 
 -- ten names, from the Nth one fN on
 abbrev ten_from : ℕ → List (List ℕ)
-ten_from n = map (numbered (codes "f")) (numbers_from 10 n)
+ten_from n = map (lettered (codes "f")) (numbers_from 10 n)
 
 -- 40 files, each made, written and renamed
 abbrev pub renamed_files : List Shown
 renamed_files =
-    begun (call.Mkdir (codes "src" ∷ []))
+    first_call (call.Mkdir (codes "src" ∷ []))
     ++ renamed_from 15 1 2
     ++ Waits 47 A (call.Create (codes "src" ∷ codes "t" ∷ []))
     ∷ renamed_from 16 16 47

@@ -19,8 +19,8 @@ awaited line clerk next given op =
     ∷ []
 
 -- the first call, which is done
-abbrev pub begun : Call → List Shown
-begun first = awaited 1 A first (answer.Reply reply.Ok) (Some 1)
+abbrev pub first_call : Call → List Shown
+first_call first = awaited 1 A first (answer.Reply reply.Ok) (Some 1)
 
 -- a call on this line that makes these operations durable
 abbrev pub flushed : ℕ → Call → List ℕ → List Shown
@@ -40,7 +40,7 @@ crashed lost =
 -- a file of this name, which another clerk counts in the root
 abbrev pub counted_file : List ℕ → List Shown
 counted_file name =
-    begun (call.Create (name ∷ []))
+    first_call (call.Create (name ∷ []))
     ++ Waits 2 B (call.Stat [])
     ∷ Durable A (1 ∷ [])
     ∷ Answered 2 B (call.Stat []) (answer.Reply (reply.Stat kind.Dir 493 0 0 1)) None
@@ -49,7 +49,7 @@ counted_file name =
 -- two files of these names and bytes, which are synced
 abbrev pub synced_files : List ℕ → List ℕ → List ℕ → List ℕ → List Shown
 synced_files one its_bytes other other_bytes =
-    begun (call.Create (one ∷ []))
+    first_call (call.Create (one ∷ []))
     ++ Answered 2 A (call.Write (one ∷ []) 0 its_bytes) (answer.Reply reply.Ok) (Some 2)
     ∷ Answered 3 A (call.Create (other ∷ [])) (answer.Reply reply.Ok) (Some 3)
     ∷ Answered 4 A (call.Write (other ∷ []) 0 other_bytes) (answer.Reply reply.Ok) (Some 4)
@@ -58,7 +58,7 @@ synced_files one its_bytes other other_bytes =
 -- three directories, which are synced
 abbrev pub synced_directories : List Shown
 synced_directories =
-    begun (call.Mkdir (codes "a" ∷ []))
+    first_call (call.Mkdir (codes "a" ∷ []))
     ++ Answered 2 A (call.Mkdir (codes "b" ∷ [])) (answer.Reply reply.Ok) (Some 2)
     ∷ Answered 3 A (call.Mkdir (codes "c" ∷ [])) (answer.Reply reply.Ok) (Some 3)
     ∷ flushed 4 call.Sync (1 ∷ 2 ∷ 3 ∷ [])
@@ -66,7 +66,7 @@ synced_directories =
 -- a file of these bytes, which is synced and then overwritten twice, the second time from here on
 abbrev pub overwritten_file : List ℕ → List ℕ → ℕ → List ℕ → List Shown
 overwritten_file bytes first at second =
-    begun (call.Create (codes "f" ∷ []))
+    first_call (call.Create (codes "f" ∷ []))
     ++ Answered 2 A (call.Write (codes "f" ∷ []) 0 bytes) (answer.Reply reply.Ok) (Some 2)
     ∷ flushed 3 call.Sync (1 ∷ 2 ∷ [])
     ++ Answered 4 A (call.Write (codes "f" ∷ []) 0 first) (answer.Reply reply.Ok) (Some 3)
@@ -76,7 +76,7 @@ overwritten_file bytes first at second =
 -- two files, of which the first is fsynced
 abbrev pub fsynced_first : List Shown
 fsynced_first =
-    begun (call.Create (codes "a" ∷ []))
+    first_call (call.Create (codes "a" ∷ []))
     ++ Answered 2 A (call.Create (codes "b" ∷ [])) (answer.Reply reply.Ok) (Some 2)
     ∷ Answered 3 A (call.Write (codes "a" ∷ []) 0 (codes "x")) (answer.Reply reply.Ok) (Some 3)
     ∷ flushed 4 (call.Fsync (codes "a" ∷ [])) (1 ∷ 3 ∷ [])
@@ -87,12 +87,12 @@ numbers_from zero n = []
 numbers_from (suc k) n = n ∷ numbers_from k (n + 1)
 
 -- this letter, and a number below 1000 in decimal
-abbrev pub numbered : List ℕ → ℕ → List ℕ
-numbered letter n = letter ++ cond (ltb n 100) [] ((48 + n / 100) ∷ []) ++ cond (ltb n 10) [] ((48 + n / 10 % 10) ∷ []) ++ (48 + n % 10) ∷ []
+abbrev pub lettered : List ℕ → ℕ → List ℕ
+lettered letter n = letter ++ cond (ltb n 100) [] ((48 + n / 100) ∷ []) ++ cond (ltb n 10) [] ((48 + n / 10 % 10) ∷ []) ++ (48 + n % 10) ∷ []
 
 -- so many new files below this directory, from the Nth one fN and this line on
 abbrev pub made_from : Path → ℕ → ℕ → ℕ → List Shown
 made_from above zero n line = []
 made_from above (suc k) n line =
-    Answered line A (call.Create (above ++ numbered (codes "f") n ∷ [])) (answer.Reply reply.Ok) (Some line)
+    Answered line A (call.Create (above ++ lettered (codes "f") n ∷ [])) (answer.Reply reply.Ok) (Some line)
     ∷ made_from above k (n + 1) (line + 1)

@@ -41,8 +41,8 @@ abbrev pub unfit : Images → Update → Option ℕ
 unfit v u = first_unfit u v (operands u)
 
 -- the object's image behind the update
-abbrev pub behind : Update → ℕ → Image
-behind u o = after small (u ∷ []) o
+abbrev pub image_behind : Update → ℕ → Image
+image_behind u o = after small (u ∷ []) o
 
 -- so many directories, from the root on
 abbrev pub numbered_from : ℕ → ℕ → Above

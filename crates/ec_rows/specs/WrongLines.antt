@@ -9,12 +9,12 @@ use Rattle.ec_history.specs.declared.entry.Answer.TheVariants as answer
 use Rattle.ec_history.specs.declared.shown.Shown.{Shown}
 use Rattle.ec_history.specs.declared.shown.Shown.TheVariants.{Waits, Answered, Durable, Ended, Unseen, Told, Crashed}
 use Rattle.ec_rows.specs.Clerks.{A}
-use Rattle.ec_rows.specs.Parts.{begun, awaited, flushed}
+use Rattle.ec_rows.specs.Parts.{first_call, awaited, flushed}
 
 -- told, behind the loss of two operations
 abbrev pub two_lost_creates : List ℕ → List Shown
 two_lost_creates told =
-    begun (call.Create (codes "f" ∷ []))
+    first_call (call.Create (codes "f" ∷ []))
     ++ Answered 2 A (call.Create (codes "g" ∷ [])) (answer.Reply reply.Ok) (Some 2)
     ∷ Ended A (1 ∷ 2 ∷ [])
     ∷ Told A told
@@ -23,7 +23,7 @@ two_lost_creates told =
 -- told, behind a write of a clerk that did not know that its session had ended
 abbrev pub late_write : List ℕ → List Shown
 late_write told =
-    begun (call.Create (codes "f" ∷ []))
+    first_call (call.Create (codes "f" ∷ []))
     ++ Ended A (1 ∷ [])
     ∷ Answered 2 A (call.Write (codes "f" ∷ []) 0 (codes "hi")) (answer.Reply reply.Ok) (Some 2)
     ∷ Told A told
@@ -32,7 +32,7 @@ late_write told =
 -- a second answer
 abbrev pub answered_line : ℕ → List ℕ → List Shown
 answered_line number name =
-    begun (call.Create (codes "f" ∷ []))
+    first_call (call.Create (codes "f" ∷ []))
     ++ Waits 2 A (call.Create (codes "g" ∷ []))
     ∷ Answered number A (call.Create (name ∷ [])) (answer.Reply reply.Ok) (Some 2)
     ∷ []
@@ -40,7 +40,7 @@ answered_line number name =
 -- the first answer of a second start, behind these lines
 abbrev pub next_start : List Shown → List Shown
 next_start between =
-    begun (call.Create (codes "f" ∷ []))
+    first_call (call.Create (codes "f" ∷ []))
     ++ flushed 2 (call.Fsync (codes "f" ∷ [])) (1 ∷ [])
     ++ Crashed A
     ∷ Waits 4 A (call.Stat [])
@@ -51,7 +51,7 @@ next_start between =
 -- the first answer of a second start, while the session of the first one is open
 abbrev pub second_start_begins : Call → Answer → List Shown
 second_start_begins next given =
-    begun (call.Create (codes "f" ∷ []))
+    first_call (call.Create (codes "f" ∷ []))
     ++ Crashed A
     ∷ Answered 3 A next given None
     ∷ []
@@ -66,7 +66,7 @@ second_waits name =
 -- told, behind these lines
 abbrev pub told_behind : List Shown → List Shown
 told_behind between =
-    begun (call.Create (codes "f" ∷ []))
+    first_call (call.Create (codes "f" ∷ []))
     ++ between
     ++ Told A (1 ∷ [])
     ∷ []
@@ -74,7 +74,7 @@ told_behind between =
 -- a second durable line
 abbrev pub two_durable_lines : List ℕ → List Shown
 two_durable_lines second =
-    begun (call.Create (codes "f" ∷ []))
+    first_call (call.Create (codes "f" ∷ []))
     ++ Answered 2 A (call.Create (codes "g" ∷ [])) (answer.Reply reply.Ok) (Some 2)
     ∷ Durable A (1 ∷ [])
     ∷ Durable A second
@@ -83,7 +83,7 @@ two_durable_lines second =
 -- a durable line of this clerk
 abbrev pub durable_of : ℕ → List ℕ → List Shown
 durable_of clerk named =
-    begun (call.Create (codes "f" ∷ []))
+    first_call (call.Create (codes "f" ∷ []))
     ++ Durable clerk named
     ∷ []
 
@@ -114,7 +114,7 @@ unshown_operation lost =
 -- a sync has an operation in an open session
 abbrev pub operation_of_sync : List ℕ → List Shown
 operation_of_sync lost =
-    begun (call.Create (codes "f" ∷ []))
+    first_call (call.Create (codes "f" ∷ []))
     ++ Answered 2 A call.Sync (answer.Reply reply.Ok) (Some 2)
     ∷ Ended A lost
     ∷ []
@@ -122,7 +122,7 @@ operation_of_sync lost =
 -- the next start has an operation while the session of the first one is open
 abbrev pub operation_of_next_start : List ℕ → List ℕ → List Shown
 operation_of_next_start first next =
-    begun (call.Create (codes "f" ∷ []))
+    first_call (call.Create (codes "f" ∷ []))
     ++ Crashed A
     ∷ Answered 3 A call.Sync (answer.Reply reply.Ok) (Some 1)
     ∷ Ended A first

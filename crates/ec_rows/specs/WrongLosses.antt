@@ -9,7 +9,7 @@ use Rattle.ec_history.specs.declared.entry.Answer.TheVariants as answer
 use Rattle.ec_history.specs.declared.shown.Shown.{Shown}
 use Rattle.ec_history.specs.declared.shown.Shown.TheVariants.{Waits, Answered, Durable, Ended, Told, Crashed}
 use Rattle.ec_rows.specs.Clerks.{A, B}
-use Rattle.ec_rows.specs.Parts.{begun, awaited, flushed, crashed, counted_file, synced_directories, overwritten_file, fsynced_first}
+use Rattle.ec_rows.specs.Parts.{first_call, awaited, flushed, crashed, counted_file, synced_directories, overwritten_file, fsynced_first}
 
 -- an fsync of one of two files, and a loss
 abbrev pub fsynced_write : List ℕ → List Shown
@@ -18,7 +18,7 @@ fsynced_write lost = fsynced_first ++ crashed lost
 -- an fsync behind these lines, and a loss
 abbrev pub answered_fsync : List Shown → List ℕ → List Shown
 answered_fsync made_durable lost =
-    begun (call.Create (codes "f" ∷ []))
+    first_call (call.Create (codes "f" ∷ []))
     ++ made_durable
     ++ Answered 2 A (call.Fsync (codes "f" ∷ [])) (answer.Reply reply.Ok) None
     ∷ crashed lost
@@ -26,7 +26,7 @@ answered_fsync made_durable lost =
 -- a sync behind these lines, and a loss
 abbrev pub answered_sync : List Shown → List ℕ → List Shown
 answered_sync made_durable lost =
-    begun (call.Create (codes "f" ∷ []))
+    first_call (call.Create (codes "f" ∷ []))
     ++ Answered 2 A (call.Create (codes "g" ∷ [])) (answer.Reply reply.Ok) (Some 2)
     ∷ made_durable
     ++ Answered 3 A call.Sync (answer.Reply reply.Ok) None
@@ -35,7 +35,7 @@ answered_sync made_durable lost =
 -- a create and a write, of which these become durable and those are lost
 abbrev pub written_file : List ℕ → List ℕ → List Shown
 written_file kept lost =
-    begun (call.Create (codes "f" ∷ []))
+    first_call (call.Create (codes "f" ∷ []))
     ++ Answered 2 A (call.Write (codes "f" ∷ []) 0 (codes "hi")) (answer.Reply reply.Ok) (Some 2)
     ∷ Durable A kept
     ∷ crashed lost
@@ -43,7 +43,7 @@ written_file kept lost =
 -- two files tied by an operation between their writes, of which these become durable and those are lost
 abbrev pub tied_writes : List ℕ → List ℕ → List Shown
 tied_writes kept lost =
-    begun (call.Create (codes "a" ∷ []))
+    first_call (call.Create (codes "a" ∷ []))
     ++ Answered 2 A (call.Create (codes "b" ∷ [])) (answer.Reply reply.Ok) (Some 2)
     ∷ flushed 3 call.Sync (1 ∷ 2 ∷ [])
     ++ Answered 4 A (call.Write (codes "a" ∷ []) 0 (codes "x")) (answer.Reply reply.Ok) (Some 3)
@@ -68,7 +68,7 @@ moved_below kept lost =
 -- another clerk sees a new file behind these lines, and then comes a loss
 abbrev pub seen_create : List Shown → List ℕ → List Shown
 seen_create made_durable lost =
-    begun (call.Create (codes "f" ∷ []))
+    first_call (call.Create (codes "f" ∷ []))
     ++ Waits 2 B (call.Stat (codes "f" ∷ []))
     ∷ made_durable
     ++ Answered 2 B (call.Stat (codes "f" ∷ [])) (answer.Reply (reply.Stat kind.File 420 0 0 0)) None
@@ -85,7 +85,7 @@ seen_write next given =
 -- an fsync that waits, with these lines before and behind its begin, and a loss
 abbrev pub fsync_begun : List Shown → List Shown → List Shown
 fsync_begun before behind =
-    begun (call.Create (codes "f" ∷ []))
+    first_call (call.Create (codes "f" ∷ []))
     ++ before
     ++ Waits 2 A (call.Fsync (codes "f" ∷ []))
     ∷ behind
@@ -96,7 +96,7 @@ fsync_begun before behind =
 -- an fsync of a second start, whose operation has the number of a durable one of the first start, behind these lines
 abbrev pub fsync_of_second_start : List Shown → List Shown
 fsync_of_second_start made_durable =
-    begun (call.Create (codes "f" ∷ []))
+    first_call (call.Create (codes "f" ∷ []))
     ++ flushed 2 call.Sync (1 ∷ [])
     ++ Crashed A
     ∷ Waits 4 A (call.Create (codes "g" ∷ []))
@@ -110,7 +110,7 @@ fsync_of_second_start made_durable =
 -- an fsync of a file whose last write is ordered behind lost operations, with these lines before its answer
 abbrev pub fsync_over_lost : List Shown → List Shown
 fsync_over_lost made_durable =
-    begun (call.Create (codes "f" ∷ []))
+    first_call (call.Create (codes "f" ∷ []))
     ++ flushed 2 call.Sync (1 ∷ [])
     ++ Answered 3 A (call.Create (codes "g" ∷ [])) (answer.Reply reply.Ok) (Some 2)
     ∷ Answered 4 A (call.Forder ((codes "f" ∷ []) ∷ (codes "g" ∷ []) ∷ [])) (answer.Reply reply.Ok) (Some 3)
@@ -126,14 +126,14 @@ fsync_over_lost made_durable =
 -- two creates, and a loss
 abbrev pub two_creates : List ℕ → List Shown
 two_creates lost =
-    begun (call.Create (codes "f" ∷ []))
+    first_call (call.Create (codes "f" ∷ []))
     ++ Answered 2 A (call.Create (codes "g" ∷ [])) (answer.Reply reply.Ok) (Some 2)
     ∷ crashed lost
 
 -- two ends of sessions, with these lines between them
 abbrev pub two_ends : List Shown → List Shown
 two_ends between =
-    begun (call.Create (codes "f" ∷ []))
+    first_call (call.Create (codes "f" ∷ []))
     ++ Ended A (1 ∷ [])
     ∷ between
     ++ Ended A []

@@ -10,12 +10,12 @@ use Rattle.ec_history.specs.declared.entry.Answer.TheVariants as answer
 use Rattle.ec_history.specs.declared.shown.Shown.{Shown}
 use Rattle.ec_history.specs.declared.shown.Shown.TheVariants.{Waits, Answered, Durable, Ended, Told, Crashed}
 use Rattle.ec_rows.specs.Clerks.{A, B}
-use Rattle.ec_rows.specs.Parts.{begun, awaited, flushed, counted_file}
+use Rattle.ec_rows.specs.Parts.{first_call, awaited, flushed, counted_file}
 
 -- a start asks for the file that the start before it lost
 abbrev pub stat_of_lost : Reply → List Shown
 stat_of_lost given =
-    begun (call.Create (codes "f" ∷ []))
+    first_call (call.Create (codes "f" ∷ []))
     ++ Crashed A
     ∷ Waits 3 A (call.Stat (codes "f" ∷ []))
     ∷ Ended A (1 ∷ [])
@@ -25,7 +25,7 @@ stat_of_lost given =
 -- a clerk reads a file that another one has written over
 abbrev pub read_behind_write : List ℕ → List Shown
 read_behind_write bytes =
-    begun (call.Create (codes "f" ∷ []))
+    first_call (call.Create (codes "f" ∷ []))
     ++ Answered 2 A (call.Write (codes "f" ∷ []) 0 (codes "one")) (answer.Reply reply.Ok) (Some 2)
     ∷ Waits 3 B (call.Write (codes "f" ∷ []) 0 (codes "two"))
     ∷ Durable A (1 ∷ 2 ∷ [])
@@ -38,7 +38,7 @@ read_behind_write bytes =
 -- a file is lost, and its clerk is told
 abbrev told_of_create : List Shown
 told_of_create =
-    begun (call.Create (codes "f" ∷ []))
+    first_call (call.Create (codes "f" ∷ []))
     ++ Ended A (1 ∷ [])
     ∷ Told A (1 ∷ [])
     ∷ []
@@ -70,7 +70,7 @@ reported_loss given =
 -- two operations on two files are lost, and a call reports on one file
 abbrev pub two_lost : List ℕ → List Shown
 two_lost reported =
-    begun (call.Create (codes "f" ∷ []))
+    first_call (call.Create (codes "f" ∷ []))
     ++ Answered 2 A (call.Create (codes "g" ∷ [])) (answer.Reply reply.Ok) (Some 2)
     ∷ flushed 3 call.Sync (1 ∷ 2 ∷ [])
     ++ Answered 4 A (call.Chmod (codes "f" ∷ []) 384) (answer.Reply reply.Ok) (Some 3)
@@ -82,14 +82,14 @@ two_lost reported =
 -- a second operation of this number, if any
 abbrev pub numbered_write : Option ℕ → List Shown
 numbered_write op =
-    begun (call.Create (codes "f" ∷ []))
+    first_call (call.Create (codes "f" ∷ []))
     ++ Answered 2 A (call.Write (codes "f" ∷ []) 0 (codes "hi")) (answer.Reply reply.Ok) op
     ∷ []
 
 -- the first operation of a second start has this number
 abbrev pub next_start_create : ℕ → List Shown
 next_start_create op =
-    begun (call.Create (codes "f" ∷ []))
+    first_call (call.Create (codes "f" ∷ []))
     ++ Crashed A
     ∷ Waits 3 A (call.Create (codes "g" ∷ []))
     ∷ Ended A (1 ∷ [])
@@ -99,7 +99,7 @@ next_start_create op =
 -- the first answer of a start, where the one before it crashed and was not told of its loss
 abbrev pub list_of_next_start : Answer → List Shown
 list_of_next_start given =
-    begun (call.Create (codes "f" ∷ []))
+    first_call (call.Create (codes "f" ∷ []))
     ++ Ended A (1 ∷ [])
     ∷ Crashed A
     ∷ awaited 4 A (call.List []) given None
@@ -107,7 +107,7 @@ list_of_next_start given =
 -- a call without update, and an operation of this number, if any
 abbrev pub numbered_stat : Option ℕ → List Shown
 numbered_stat op =
-    begun (call.Create (codes "f" ∷ []))
+    first_call (call.Create (codes "f" ∷ []))
     ++ Answered 2 A (call.Stat (codes "f" ∷ [])) (answer.Reply (reply.Stat kind.File 420 0 0 0)) op
     ∷ []
 

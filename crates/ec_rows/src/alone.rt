@@ -3,7 +3,7 @@ ghost use Rattle.std.specs.Prelude.{[]};
 ghost use Rattle.ec_history.specs.Legal.{IsLegal, from_formatted};
 ghost use Rattle.ec_history.specs.Lines.{AreCovered};
 ghost use Rattle.ec_history.specs.Placing.{ArePlaceable, place};
-ghost use Rattle.ec_rows.specs.Alone.{own_write, malformed_line, refusals, replaced_directory, chowned_file, farthest_byte, refused_loop, moved_file, tied_files, untied_files, closed_gate, open_gate, two_stops, repeated_batch};
+ghost use Rattle.ec_rows.specs.Alone.{own_write, malformed_line, refusals, replaced_directory, chowned_file, farthest_byte, refused_loop, moved_file, tied_files, untied_files, closed_gate, stop_behind_open_gate, two_stops, repeated_batch};
 
 /// A clerk reads what it wrote.
 pub fn accepts_own_write()
@@ -77,9 +77,9 @@ pub fn accepts_closed_gate()
 
 /// The server stops behind the record of an `fsync`, and the restart finds it durable.
 pub fn accepts_open_gate()
-    ensures placeable { ArePlaceable [] open_gate }
-    ensures legal { IsLegal from_formatted 1024 (place open_gate) }
-    ensures covered { AreCovered from_formatted open_gate }
+    ensures placeable { ArePlaceable [] stop_behind_open_gate }
+    ensures legal { IsLegal from_formatted 1024 (place stop_behind_open_gate) }
+    ensures covered { AreCovered from_formatted stop_behind_open_gate }
 {}
 
 /// Two stops of the server lose nothing that a clerk holds.

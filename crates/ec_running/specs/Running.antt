@@ -27,7 +27,7 @@ pub record Steps (f : Clerk → Doing) (c : ℕ) (old new : Table Clerk) (outs :
   pub put_is : new ≡ put c after old
 
 -- the clerk doesn't run, and nothing changed
-pub record Stays (c : ℕ) (old new : Table Clerk) : Type 0 where
+pub record StaysAbsent (c : ℕ) (old new : Table Clerk) : Type 0 where
   pub absent : at c old ≡ None
   pub same : new ≡ old
 
@@ -37,9 +37,9 @@ pub record TakesOut (c : ℕ) (old new : Table Clerk) (clerk : Clerk) : Type 0 w
   pub left : new ≡ without c old
   pub sorted : T (is_sorted nat_cmp old)
 
-abbrev pub Begins : Call → ℕ → Table Clerk → Table Clerk → Begun → Type 0
-Begins call c old new (Took number outs) = (s : Steps (machine.begin call) c old new outs.items) × (number ≡ s.before.calls + 1)
-Begins call c old new (IsAbsent same) = Stays c old new × (same ≡ call)
+abbrev pub BeginsCall : Call → ℕ → Table Clerk → Table Clerk → Begun → Type 0
+BeginsCall call c old new (Took number outs) = (s : Steps (machine.begin call) c old new outs.items) × (number ≡ s.before.calls + 1)
+BeginsCall call c old new (IsAbsent same) = StaysAbsent c old new × (same ≡ call)
 
 -- the clerk runs, and would spend this counter
 pub record WouldSpend (f : Clerk → Doing) (c : ℕ) (n : Counter) (old new : Table Clerk) : Type 0 where
@@ -70,7 +70,7 @@ JoinsNot NoSuchOp call first old new = ⊥
 JoinsNot NoSuchMsg call first old new = ⊥
 
 -- the clerk started with this boot, which gave these, and joined with the call
-pub record Starts (call : Call) (c boot : ℕ) (old new : Table Clerk) (number : ℕ) (before outs : List Out) : Type 0 where
+pub record StartsRunning (call : Call) (c boot : ℕ) (old new : Table Clerk) (number : ℕ) (before outs : List Out) : Type 0 where
   pub first : Clerk
   pub starts : machine.start c boot ≡ record { clerk = first; outs = before; spent = None }
   pub joins : Joins call c first old new number outs

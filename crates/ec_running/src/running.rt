@@ -3,7 +3,7 @@ ghost use Rattle.std.specs.Prelude.{◌≡◌, true, IfOk, IfErr, MatchOption};
 ghost use Rattle.ec_base.specs.Tables.{at};
 ghost use Rattle.ec_wire.specs.Messages.{is_sound};
 ghost use Rattle.ec_protocol.specs.Clerk as machine;
-ghost use Rattle.ec_running.specs.Running.{Begins, Joins, JoinsNot, Starts, StartsNot, Stays, Steps, StaysAt, TakesOut, has_issued_in};
+ghost use Rattle.ec_running.specs.Running.{BeginsCall, Joins, JoinsNot, StartsRunning, StartsNot, StaysAbsent, Steps, StaysAt, TakesOut, has_issued_in};
 
 use crate::fault::StepFault;
 use ec_base::{ClerkId, OpNo, SortedMap};
@@ -25,7 +25,7 @@ pub fn has_issued(clerks: &SortedMap<ClerkId, Clerk>, id: ClerkId, op: OpNo) -> 
 
 // Takes the clerk out, where it runs.
 fn take_out(clerks: &mut SortedMap<ClerkId, Clerk>, id: ClerkId) -> Option<Clerk>
-    ensures { MatchOption result (Stays id clerks.old clerks.new) (λ clerk. TakesOut id clerks.old clerks.new clerk) }
+    ensures { MatchOption result (StaysAbsent id clerks.old clerks.new) (λ clerk. TakesOut id clerks.old clerks.new clerk) }
 {
     if !clerks.contains(&id) {
         return None;
@@ -49,7 +49,7 @@ pub fn begin(
     id: ClerkId,
     call: Call,
 ) -> Result<Begun, StepFault>
-    ensures ok { IfOk result (λ begun. Begins call id clerks.old clerks.new begun) }
+    ensures ok { IfOk result (λ begun. BeginsCall call id clerks.old clerks.new begun) }
     ensures err { IfErr result (λ fault. StaysAt fault (machine.begin call) id clerks.old clerks.new) }
 {
     let Some(mut clerk) = take_out(clerks, id) else {
@@ -69,7 +69,7 @@ pub fn start(
     boot: u64,
     call: Call,
 ) -> Result<(u64, Vec<Out>, Vec<Out>), StepFault>
-    ensures ok { IfOk result (λ made. Starts call id boot clerks.old clerks.new made.0 made.1.items made.2.items) }
+    ensures ok { IfOk result (λ made. StartsRunning call id boot clerks.old clerks.new made.0 made.1.items made.2.items) }
     ensures err { IfErr result (λ fault. StartsNot fault call id boot clerks.old clerks.new) }
 {
     match Clerk::start(alloc, id, boot) {
@@ -106,7 +106,7 @@ pub fn push(
     op: OpNo,
 ) -> Result<Option<Vec<Out>>, StepFault>
     requires { has_issued_in op (at id clerks.old) ≡ true }
-    ensures ok { IfOk result (λ made. MatchOption made (Stays id clerks.old clerks.new) (λ outs. Steps (machine.push op) id clerks.old clerks.new outs.items)) }
+    ensures ok { IfOk result (λ made. MatchOption made (StaysAbsent id clerks.old clerks.new) (λ outs. Steps (machine.push op) id clerks.old clerks.new outs.items)) }
     ensures err { IfErr result (λ fault. StaysAt fault (machine.push op) id clerks.old clerks.new) }
 {
     let Some(mut clerk) = take_out(clerks, id) else {
@@ -124,7 +124,7 @@ pub fn take(
     msg: Msg,
 ) -> Result<Option<Vec<Out>>, StepFault>
     requires { is_sound msg ≡ true }
-    ensures ok { IfOk result (λ made. MatchOption made (Stays id clerks.old clerks.new) (λ outs. Steps (machine.take msg) id clerks.old clerks.new outs.items)) }
+    ensures ok { IfOk result (λ made. MatchOption made (StaysAbsent id clerks.old clerks.new) (λ outs. Steps (machine.take msg) id clerks.old clerks.new outs.items)) }
     ensures err { IfErr result (λ fault. StaysAt fault (machine.take msg) id clerks.old clerks.new) }
 {
     let Some(mut clerk) = take_out(clerks, id) else {
@@ -140,7 +140,7 @@ pub fn resend(
     clerks: &mut SortedMap<ClerkId, Clerk>,
     id: ClerkId,
 ) -> Result<Option<Vec<Out>>, StepFault>
-    ensures ok { IfOk result (λ made. MatchOption made (Stays id clerks.old clerks.new) (λ outs. Steps machine.resend id clerks.old clerks.new outs.items)) }
+    ensures ok { IfOk result (λ made. MatchOption made (StaysAbsent id clerks.old clerks.new) (λ outs. Steps machine.resend id clerks.old clerks.new outs.items)) }
     ensures err { IfErr result (λ fault. StaysAt fault machine.resend id clerks.old clerks.new) }
 {
     let Some(mut clerk) = take_out(clerks, id) else {

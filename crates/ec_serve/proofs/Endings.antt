@@ -24,7 +24,7 @@ use Rattle.ec_servernode.specs.TurnSteps.{RunsFrom, Finished}
 use Rattle.ec_lock.specs.Steps.{Member, of}
 use Rattle.ec_threads.specs.Goings.{served_later}
 use Rattle.ec_serve.specs.Serve.{Outer, AllBack, RanOut, Spends, boxes_of}
-use Rattle.ec_serve.specs.ServerRuns.{Tends, KeeperEnds, RanWhole, EndsAs, Ran, RanFrom, EndsBy}
+use Rattle.ec_serve.specs.ServerRuns.{Tends, KeeperEnds, RanWhole, EndsAs, RanServer as Ran, RanFrom, EndsBy}
 use Rattle.ec_serve.specs.Endings.{ending_of, unstarted}
 use Rattle.ec_serve.specs.declared.ending.Ending.{Ending}
 use Rattle.ec_serve.specs.declared.ending.Ending.TheVariants as ending

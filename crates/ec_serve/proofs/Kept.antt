@@ -7,7 +7,7 @@ use Rattle.ec_durable.specs.Durable.{step}
 use Rattle.ec_durable.specs.declared.state.Durable.{Durable}
 use Rattle.ec_durable.specs.declared.record.Record.{Record}
 use Rattle.ec_journal.specs.Journal.{need_of}
-use Rattle.ec_keeper.specs.Keeps.{Keeps, Leaves}
+use Rattle.ec_keeper.specs.Keeps.{KeepsRecord, LeavesRecord}
 use Rattle.ec_keeper.specs.declared.keeper.DiskKeeper.{DiskKeeper}
 use Rattle.ec_layout.specs.Selected.{free_now}
 use Rattle.ec_protocol.specs.Server.{start}
@@ -85,7 +85,7 @@ module _ {D : Type 0} (tells : Type 0) (view : D → View) (counts : D → Count
   disk_did old r new =
       (new.store.ghost_name ≡ old.store.ghost_name) × (new.disk.ghost_name ≡ old.disk.ghost_name)
       × (step r (view_of old.store.now) ≡ Ok (view_of new.store.now))
-      × (tells → IsHeld (view old.disk.now) old.store.now → Keeps r old.store.now new.store.now (view old.disk.now) (view new.disk.now))
+      × (tells → IsHeld (view old.disk.now) old.store.now → KeepsRecord r old.store.now new.store.now (view old.disk.now) (view new.disk.now))
       × (need_of (record_code.spell r) ≤ free_now old.store.now.selected → Called 4 (counts old.disk.now) (counts new.disk.now))
       × ((turns : ℕ) × Turned turns (counts old.disk.now).armed (counts new.disk.now).armed (Unit {0}) ⊥
       × (need_of (record_code.spell r) ≤ free_now old.store.now.selected → turns ≡ 4) × (free_now old.store.now.selected < need_of (record_code.spell r) → 9 ≤ turns))
@@ -93,7 +93,7 @@ module _ {D : Type 0} (tells : Type 0) (view : D → View) (counts : D → Count
   abbrev pub disk_broke : DiskKeeper D → Record → DiskKeeper D → Type 0
   disk_broke old r new =
       (new.store.ghost_name ≡ old.store.ghost_name) × (new.disk.ghost_name ≡ old.disk.ghost_name)
-      × (tells → IsHeld (view old.disk.now) old.store.now → Leaves r old.store.now (view old.disk.now) (view new.disk.now))
+      × (tells → IsHeld (view old.disk.now) old.store.now → LeavesRecord r old.store.now (view old.disk.now) (view new.disk.now))
       × ((turns : ℕ) × Turned turns (counts old.disk.now).armed (counts new.disk.now).armed ⊥ ⊥ × (need_of (record_code.spell r) ≤ free_now old.store.now.selected → turns ≤ 4))
       × (tells → IsHeld (view old.disk.now) old.store.now → StandsFor (view new.disk.now).synced (view_of old.store.now))
 

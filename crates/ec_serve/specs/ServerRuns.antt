@@ -63,13 +63,13 @@ module _ {K : Type 0} (kept : K → Durable) (counts : K → Counts) (did breaks
     pub chain : Chain did (before ++ records run) old new
 
   -- A server in this state ends so.
-  abbrev pub Ran : Server → (ℕ → List Msg) → ℕ → Ending → K → K → Outer → Outer → Type 0
-  Ran s boxes count end old new links later =
+  abbrev pub RanServer : Server → (ℕ → List Msg) → ℕ → Ending → K → K → Outer → Outer → Type 0
+  RanServer s boxes count end old new links later =
       KeeperEnds old new × EndsAs ((ran : RanWhole s boxes [] old new) × AllBack count ran.run links later) (λ n. RanOut s boxes n) (counts old).faults (counts new).faults links later end
 
   -- a server that was just started, which sent this
   abbrev pub RanFrom : Own → List (ℕ × Msg) → ℕ → Ending → K → K → Outer → Outer → Type 0
-  RanFrom server sent count end old new links later = Ran (standing (kept old) server) (boxes_of sent) count end old new links later
+  RanFrom server sent count end old new links later = RanServer (standing (kept old) server) (boxes_of sent) count end old new links later
 
   -- a server that is started first
   abbrev pub EndsBy : ℕ → Ending → K → K → Outer → Outer → Type 0

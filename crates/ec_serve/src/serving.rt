@@ -8,7 +8,7 @@ ghost use Rattle.ec_servernode.specs.TurnSteps.{IsServerPass};
 ghost use Rattle.ec_lock.specs.PassViews.{first};
 ghost use Rattle.ec_store.specs.Store.{IsHeld, view_of};
 ghost use Rattle.ec_serve.specs.Serve.{Outer, Serves};
-ghost use Rattle.ec_serve.specs.ServerRuns.{ServesOn, EndsBy, RanFrom, Ran};
+ghost use Rattle.ec_serve.specs.ServerRuns.{ServesOn, EndsBy, RanFrom, RanServer};
 
 use crate::ending::{Ending, ending_of, unopened, unstarted};
 use crate::opening::store_on;
@@ -166,7 +166,7 @@ fn serve_shared<K: Keeper + Send + Drop, N: Net, R: Around + Eprint>(
 ) -> (K, Ending)
     requires { IsServerPass K.kept server.lock pass }
     ensures later { (N.faults net.old ≤ N.faults net.new) × (faults_of spawner.old ≤ faults_of spawner.new) }
-    ensures ends { Ran K.kept K.counts K.did K.broke (state_of K.kept (first server.lock)) (queue_at (first server.lock).boxes.items) count result.1 (first server.lock).keeper result.0
+    ensures ends { RanServer K.kept K.counts K.did K.broke (state_of K.kept (first server.lock)) (queue_at (first server.lock).boxes.items) count result.1 (first server.lock).keeper result.0
         (record { faults = N.faults net.old; bad = N.bad net.old; ended = N.ended net.old; starts = faults_of spawner.old })
         (record { faults = N.faults net.new; bad = N.bad net.new; ended = N.ended net.new; starts = faults_of spawner.new }) }
 {

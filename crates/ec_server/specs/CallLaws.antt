@@ -31,7 +31,7 @@ use Rattle.ec_server.specs.Clerks.{HaveClerks, Records, Goes}
 use Rattle.ec_server.specs.ClerkLaws.{taken_goes}
 use Rattle.ec_server.specs.ServeLaws.{serve_serves, ended_goes, end_rec}
 use Rattle.ec_server.specs.Servers.{GoesDown}
-use Rattle.ec_server.specs.Steps.{server, under, Leaves, does}
+use Rattle.ec_server.specs.Steps.{server, under, FaultLeaves, does}
 use Rattle.ec_admission.specs.Parts.{part_of}
 use Rattle.ec_admission.specs.declared.messages.Part.{Part}
 use Rattle.ec_server.specs.declared.state.Core.{Core}
@@ -47,10 +47,10 @@ pub end_clerks : (c : ℕ) (s : Server) (t u : Serving) → t ≡ serving s → 
 end_clerks c s t u p q h = subst (λ (v : Serving). HaveClerks v.server) (ap (end_open c (slot s.durable c)) (sym p) ∙ q) (ended_goes c (slot s.durable c) (serving s) refl h).clerks
 
 -- a fault before the wants are served
-pub leaves_served : (fault : ServerFault) (a b : Counts) (f : Serving → Serving) (s new : Server) (t : Serving) → t ≡ serving s → Leaves fault a b (f t) t.server new → Leaves fault a b (serve (f (serving s))) s new
-leaves_served fault a b f s new t p h = go fault (subst (λ (v : Serving). Leaves fault a b (f v) v.server new) p h)
+pub leaves_served : (fault : ServerFault) (a b : Counts) (f : Serving → Serving) (s new : Server) (t : Serving) → t ≡ serving s → FaultLeaves fault a b (f t) t.server new → FaultLeaves fault a b (serve (f (serving s))) s new
+leaves_served fault a b f s new t p h = go fault (subst (λ (v : Serving). FaultLeaves fault a b (f v) v.server new) p h)
   where
-    go : (e : ServerFault) → Leaves e a b (f (serving s)) s new → Leaves e a b (serve (f (serving s))) s new
+    go : (e : ServerFault) → FaultLeaves e a b (f (serving s)) s new → FaultLeaves e a b (serve (f (serving s))) s new
     go (Spent n) h = ((serve_serves (f (serving s))).spent n h.0, h.1)
     go DiskFailed h = h
     go DiskStopped h = h
@@ -58,11 +58,11 @@ leaves_served fault a b f s new t p h = go fault (subst (λ (v : Serving). Leave
 
 -- Answers.
 
-abbrev pub answer_of : Server → Served → Serving
-answer_of s served = record { server = s; sent = served.sent; rec = served.rec; spent = None }
+abbrev pub with_answer : Server → Served → Serving
+with_answer s served = record { server = s; sent = served.sent; rec = served.rec; spent = None }
 
-pub answered : (m : Serving) (e : Durable) (core after : Core) (served : Served) → m ≡ under e core → server e after ≡ server e core → served.sent ≡ core.sent.items → served.rec ≡ core.rec → m ≡ answer_of (server e after) served
-answered m e core after served p q r n =
+pub call_answered : (m : Serving) (e : Durable) (core after : Core) (served : Served) → m ≡ under e core → server e after ≡ server e core → served.sent ≡ core.sent.items → served.rec ≡ core.rec → m ≡ with_answer (server e after) served
+call_answered m e core after served p q r n =
     p ∙ ap (λ (s : Server). record { server = s; sent = core.sent.items; rec = core.rec; spent = None }) (sym q)
     ∙ ap (λ (l : List (ℕ × Msg)). record { server = server e after; sent = l; rec = core.rec; spent = None }) (sym r)
     ∙ ap (λ (o : Option Record). record { server = server e after; sent = served.sent; rec = o; spent = None }) (sym n)
@@ -71,37 +71,37 @@ apart : false ≡ true → ⊥
 apart p = absurd cc
 
 pub answers_ok : {U : Type 0} (done : Result U ServerFault) (res : Result Served ServerFault) (m : Serving) (e : Durable) (core after : Core) → OnOk done (m ≡ under e core)
-    → IfOk res (λ served. IsOk done × (served.sent ≡ core.sent.items) × (served.rec ≡ core.rec)) → server e after ≡ server e core → IfOk res (λ served. m ≡ answer_of (server e after) served)
-answers_ok (Ok u) (Ok served) m e core after p r q = answered m e core after served p q r.1 r.2
+    → IfOk res (λ served. IsOk done × (served.sent ≡ core.sent.items) × (served.rec ≡ core.rec)) → server e after ≡ server e core → IfOk res (λ served. m ≡ with_answer (server e after) served)
+answers_ok (Ok u) (Ok served) m e core after p r q = call_answered m e core after served p q r.1 r.2
 answers_ok (Err f) (Ok served) m e core after p r q = absurd (apart r.0)
 answers_ok done (Err f) m e core after p r q = tt
 
 pub answers_err : (U : Type 0) (done : Result U ServerFault) (res : Result Served ServerFault) (a b : Counts) (m : Serving) (e : Durable) (old : Server) (core after : Core)
-    → IfErr done (λ fault. Leaves fault a b m old (server e core)) → IfErr res (λ fault. done ≡ Err fault) → server e after ≡ server e core → IfErr res (λ fault. Leaves fault a b m old (server e after))
+    → IfErr done (λ fault. FaultLeaves fault a b m old (server e core)) → IfErr res (λ fault. done ≡ Err fault) → server e after ≡ server e core → IfErr res (λ fault. FaultLeaves fault a b m old (server e after))
 answers_err U done (Ok served) a b m e old core after p r q = tt
 answers_err U done (Err f) a b m e old core after p r q =
-    subst (λ (s : Server). Leaves f a b m old s) (sym q) (by done p r)
+    subst (λ (s : Server). FaultLeaves f a b m old s) (sym q) (by done p r)
   where
-    by : (d : Result U ServerFault) → IfErr d (λ fault. Leaves fault a b m old (server e core)) → d ≡ Err f → Leaves f a b m old (server e core)
+    by : (d : Result U ServerFault) → IfErr d (λ fault. FaultLeaves fault a b m old (server e core)) → d ≡ Err f → FaultLeaves f a b m old (server e core)
     by (Ok u) p r = absurd cc
-    by (Err g) p r = let same : g ≡ f = cc in subst (λ (x : ServerFault). Leaves x a b m old (server e core)) same p
+    by (Err g) p r = let same : g ≡ f = cc in subst (λ (x : ServerFault). FaultLeaves x a b m old (server e core)) same p
 
 both : (x : Bool) → x ≡ true → x ≡ false → ⊥
 both x p q = absurd cc
 
 -- what the machine's step keeps stays, unless the server is down
-pub answers_stand : (P : Server → Type 0) (res : Result Served ServerFault) (down now : Bool) (a b : Counts) (m : Serving) (old new : Server) → GoesDown res down now → IfOk res (λ served. m ≡ answer_of new served)
-    → IfErr res (λ fault. Leaves fault a b m old new) → P m.server → P old → now ≡ false → P new
+pub answers_stand : (P : Server → Type 0) (res : Result Served ServerFault) (down now : Bool) (a b : Counts) (m : Serving) (old new : Server) → GoesDown res down now → IfOk res (λ served. m ≡ with_answer new served)
+    → IfErr res (λ fault. FaultLeaves fault a b m old new) → P m.server → P old → now ≡ false → P new
 answers_stand P (Ok served) down now a b m old new g p r h k q = subst (λ (v : Serving). P v.server) p h
 answers_stand P (Err (Spent n)) down now a b m old new g p r h k q = subst P (sym r.1) k
 answers_stand P (Err DiskFailed) down now a b m old new g p r h k q = absurd (both now g.1 q)
 answers_stand P (Err DiskStopped) down now a b m old new g p r h k q = absurd (both now g.1 q)
 answers_stand P (Err NoMemory) down now a b m old new g p r h k q = absurd (both now g q)
 
-pub record_by : (m : Serving) (d : Durable) (new : Server) (served : Served) → m ≡ answer_of new served → Goes d m → Records served.rec d new.durable
+pub record_by : (m : Serving) (d : Durable) (new : Server) (served : Served) → m ≡ with_answer new served → Goes d m → Records served.rec d new.durable
 record_by m d new served p g = subst (λ (v : Serving). Records v.rec d v.server.durable) p g.record_of
 
-pub answers_record : (res : Result Served ServerFault) (m : Serving) (d : Durable) (new : Server) → IfOk res (λ served. m ≡ answer_of new served) → Goes d m → IfOk res (λ served. Records served.rec d new.durable)
+pub answers_record : (res : Result Served ServerFault) (m : Serving) (d : Durable) (new : Server) → IfOk res (λ served. m ≡ with_answer new served) → Goes d m → IfOk res (λ served. Records served.rec d new.durable)
 answers_record (Ok served) m d new p g = record_by m d new served p g
 answers_record (Err f) m d new p g = tt
 
@@ -120,7 +120,7 @@ pub answers_now : (res : Result Served ServerFault) (d e : Durable) → IfOk res
 answers_now (Ok served) d e r = λ order. past (record_list served.rec) d e order (led_by served.rec d e r)
 answers_now (Err f) d e r = tt
 
-pub answers_none : (res : Result Served ServerFault) (c : ℕ) (s new : Server) → IfOk res (λ served. end c s ≡ answer_of new served) → IfOk res (λ served. (served.rec ≡ None) ↔ (slots.is_open (slot s.durable c) ≡ false))
+pub answers_none : (res : Result Served ServerFault) (c : ℕ) (s new : Server) → IfOk res (λ served. end c s ≡ with_answer new served) → IfOk res (λ served. (served.rec ≡ None) ↔ (slots.is_open (slot s.durable c) ≡ false))
 answers_none (Ok served) c s new p = subst (λ (v : Serving). (v.rec ≡ None) ↔ (slots.is_open (slot s.durable c) ≡ false)) p (end_rec c s)
 answers_none (Err f) c s new p = tt
 

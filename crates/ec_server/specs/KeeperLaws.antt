@@ -18,7 +18,7 @@ use Rattle.ec_durable.specs.declared.record.RecordFault.{RecordFault}
 use Rattle.ec_protocol.specs.Server.{Serving, commit, stay, tell, with_server, forget, tell_ended, tell_opened, finish, open_new, spend, epoch, flush, may_write, grant_ids, ids_are_spent, send_ids, record_ids, with_ids, start, serving, new_server, tell_start, tell_all, serve}
 use Rattle.ec_protocol.specs.declared.server.Served.{Served}
 use Rattle.ec_server.specs.ClerkLaws.{goes_on, behind}
-use Rattle.ec_server.specs.Keepers.{Did, MayHave, Hurts, SpendsNothing, HasNumbers, HasRoom, Moves, Ends, Fails}
+use Rattle.ec_server.specs.Keepers.{Did, MayHave, Hurts, SpendsNothing, HasNumbers, HasRoom, Moves, EndsRecord, Fails}
 use Rattle.ec_server.specs.Laws.{at_some, at_none, flush_by, ids_by, spent_or, start_by, no_session, not_le}
 use Rattle.ec_admission.specs.Waits.{fewer}
 use Rattle.ec_server.specs.NumberLaws.{no_clash, serve_lasts}
@@ -29,7 +29,7 @@ use Rattle.ec_server.specs.declared.fault.ServerFault.{ServerFault}
 use Rattle.ec_server.specs.declared.fault.ServerFault.TheVariants.{DiskFailed, DiskStopped, Spent, NoMemory}
 
 -- A step by this record: it's the step's, and leaves numbers.
-pub record Takes (r : Record) (core : Core) (done : Serving) : Type 0 where
+pub record TakesRecord (r : Record) (core : Core) (done : Serving) : Type 0 where
   pub rec : done.rec ≡ Some r
   pub numbers : HasRoom core → HasNumbers done
 
@@ -48,41 +48,41 @@ same_within : (a b c : ℕ) → a + b < c → a + b ≤ c
 same_within a b c p = omega arith
 
 -- An end.
-pub finish_takes : (c : ℕ) (sl : Slot) (s : ℕ) (d e : Durable) (core : Core) → slot d c ≡ Some sl → sl.session ≡ s → step (End c s) d ≡ Ok e → Takes (End c s) core (at_slot c (finish c) (under d core))
-finish_takes c sl s d e core at same is = subst (λ (n : ℕ). step (End c n) d ≡ Ok e → Takes (End c n) core (at_slot c (finish c) (under d core))) same by is
+pub finish_takes : (c : ℕ) (sl : Slot) (s : ℕ) (d e : Durable) (core : Core) → slot d c ≡ Some sl → sl.session ≡ s → step (End c s) d ≡ Ok e → TakesRecord (End c s) core (at_slot c (finish c) (under d core))
+finish_takes c sl s d e core at same is = subst (λ (n : ℕ). step (End c n) d ≡ Ok e → TakesRecord (End c n) core (at_slot c (finish c) (under d core))) same by is
   where
-    by : step (End c sl.session) d ≡ Ok e → Takes (End c sl.session) core (at_slot c (finish c) (under d core))
+    by : step (End c sl.session) d ≡ Ok e → TakesRecord (End c sl.session) core (at_slot c (finish c) (under d core))
     by is =
-        subst (Takes (End c sl.session) core) (sym (at_some c (finish c) (under d core) sl at ∙ committed_by (End c sl.session) (λ u. tell_ended c sl (with_server (forget sl.session) u)) stay d e core is))
+        subst (TakesRecord (End c sl.session) core) (sym (at_some c (finish c) (under d core) sl at ∙ committed_by (End c sl.session) (λ u. tell_ended c sl (with_server (forget sl.session) u)) stay d e core is))
         (record { rec = refl; numbers = λ room. (refl, within core.number (length core.recalls) _ last_counter (fewer (λ w. not (w.session == sl.session)) core.recalls) room) })
 
 -- An opening.
-pub open_takes : (c : ℕ) (age : Age) (s : ℕ) (old : Option ℕ) (d e : Durable) (core : Core) → s ≡ d.next_session → s < last_counter → step (Open c age s) d ≡ Ok e → Takes (Open c age s) core (open_new c age old (under d core))
+pub open_takes : (c : ℕ) (age : Age) (s : ℕ) (old : Option ℕ) (d e : Durable) (core : Core) → s ≡ d.next_session → s < last_counter → step (Open c age s) d ≡ Ok e → TakesRecord (Open c age s) core (open_new c age old (under d core))
 unfolding spent_or
 open_takes c age s old d e core same less is =
-    subst (λ (n : ℕ). n < last_counter → step (Open c age n) d ≡ Ok e → Takes (Open c age n) core (open_new c age old (under d core))) (sym same) by less is
+    subst (λ (n : ℕ). n < last_counter → step (Open c age n) d ≡ Ok e → TakesRecord (Open c age n) core (open_new c age old (under d core))) (sym same) by less is
   where
-    told : (o : Option ℕ) → Takes (Open c age d.next_session) core (tell_opened c age d.next_session o (behind (Open c age d.next_session) e (under d core)))
+    told : (o : Option ℕ) → TakesRecord (Open c age d.next_session) core (tell_opened c age d.next_session o (behind (Open c age d.next_session) e (under d core)))
     told None = record { rec = refl; numbers = λ room. (refl, same_within core.number (length core.recalls) last_counter room) }
     told (Some n) = record { rec = refl; numbers = λ room. (refl, within core.number (length core.recalls) _ last_counter (fewer (λ w. not (w.session == n)) core.recalls) room) }
 
-    by : d.next_session < last_counter → step (Open c age d.next_session) d ≡ Ok e → Takes (Open c age d.next_session) core (open_new c age old (under d core))
+    by : d.next_session < last_counter → step (Open c age d.next_session) d ≡ Ok e → TakesRecord (Open c age d.next_session) core (open_new c age old (under d core))
     by less is =
-        subst (Takes (Open c age d.next_session) core)
+        subst (TakesRecord (Open c age d.next_session) core)
         (sym (ap (spent_or (spend counter.Session (under d core)) (commit (Open c age d.next_session) (tell_opened c age d.next_session old) stay (under d core))) (not_le last_counter d.next_session less)
         ∙ committed_by (Open c age d.next_session) (tell_opened c age d.next_session old) stay d e core is))
         (told old)
 
 -- A batch.
 pub flush_takes : (c ss b : ℕ) (ops : List (ℕ × Update)) (d e : Durable) (core : Core) → has_batch b (slot d c) ≡ false → may_write core.tokens ss ops ≡ true → step (Batch c ss b ops) d ≡ Ok e
-    → Takes (Batch c ss b ops) core (at_slot c (flush c ss b ops) (under d core))
+    → TakesRecord (Batch c ss b ops) core (at_slot c (flush c ss b ops) (under d core))
 unfolding flush_by
 flush_takes c ss b ops d e core had may is = go (slot d c) refl had
   where
-    go : (o : Option Slot) → slot d c ≡ o → has_batch b o ≡ false → Takes (Batch c ss b ops) core (at_slot c (flush c ss b ops) (under d core))
+    go : (o : Option Slot) → slot d c ≡ o → has_batch b o ≡ false → TakesRecord (Batch c ss b ops) core (at_slot c (flush c ss b ops) (under d core))
     go None p h = absurd (no_session c ss b ops d e p is)
     go (Some sl) p h =
-        subst (Takes (Batch c ss b ops) core)
+        subst (TakesRecord (Batch c ss b ops) core)
         (sym (at_some c (flush c ss b ops) (under d core) sl p
         ∙ ap (λ x. flush_by c ss b ops sl (under d core) x (may_write core.tokens ss ops)) h
         ∙ ap (λ x. flush_by c ss b ops sl (under d core) false x) may
@@ -90,9 +90,9 @@ flush_takes c ss b ops d e core had may is = go (slot d c) refl had
         (record { rec = refl; numbers = λ room. (refl, same_within core.number (length core.recalls) last_counter room) })
 
 pub flush_takes_by : (c ss b : ℕ) (xs ops : List (ℕ × Update)) (d e : Durable) (core : Core) → xs ≡ ops → has_batch b (slot d c) ≡ false → may_write core.tokens ss ops ≡ true → step (Batch c ss b xs) d ≡ Ok e
-    → Takes (Batch c ss b xs) core (at_slot c (flush c ss b ops) (under d core))
+    → TakesRecord (Batch c ss b xs) core (at_slot c (flush c ss b ops) (under d core))
 flush_takes_by c ss b xs ops d e core same had may =
-    subst (λ (ys : List (ℕ × Update)). step (Batch c ss b ys) d ≡ Ok e → Takes (Batch c ss b ys) core (at_slot c (flush c ss b ops) (under d core))) (sym same) (flush_takes c ss b ops d e core had may)
+    subst (λ (ys : List (ℕ × Update)). step (Batch c ss b ys) d ≡ Ok e → TakesRecord (Batch c ss b ys) core (at_slot c (flush c ss b ops) (under d core))) (sym same) (flush_takes c ss b ops d e core had may)
 
 -- a batch that may not be written, or is refused, ends the session
 pub flush_ends : (c ss b : ℕ) (ops : List (ℕ × Update)) (d : Durable) (core : Core) → has_batch b (slot d c) ≡ false → (may_write core.tokens ss ops ≡ false) ⊎ ((fault : RecordFault) × (step (Batch c ss b ops) d ≡ Err fault))
@@ -115,9 +115,9 @@ flush_ends c ss b ops d core had why = go (slot d c) refl had
 
 -- Ids.
 pub grant_takes : (c ss got ask n : ℕ) (d e : Durable) (core : Core) → is_full d ≡ false → (nat_lt last_first_id d.next_id || nat_le last_grants got) ≡ false → n ≡ d.next_id → step (Ids c ss got n) d ≡ Ok e
-    → Takes (Ids c ss got n) core (grant_ids c ss got ask (under d core))
+    → TakesRecord (Ids c ss got n) core (grant_ids c ss got ask (under d core))
 unfolding ids_by
-grant_takes c ss got ask n d e core full fits same is = subst (λ (m : ℕ). step (Ids c ss got m) d ≡ Ok e → Takes (Ids c ss got m) core (grant_ids c ss got ask (under d core))) (sym same) by is
+grant_takes c ss got ask n d e core full fits same is = subst (λ (m : ℕ). step (Ids c ss got m) d ≡ Ok e → TakesRecord (Ids c ss got m) core (grant_ids c ss got ask (under d core))) (sym same) by is
   where
     t : Serving
     t = behind (Ids c ss got d.next_id) e (under d core)
@@ -132,7 +132,7 @@ grant_takes c ss got ask n d e core full fits same is = subst (λ (m : ℕ). ste
     recorded u = send_ids c ss got d.next_id (with_server (λ s. record s { tokens = with_ids ss s.number (run d.next_id 16) s.tokens; recorded = put ss s.number s.recorded }) u)
 
     sent : (x : Bool) → nat_le last_counter core.number ≡ x
-        → Takes (Ids c ss got d.next_id) core
+        → TakesRecord (Ids c ss got d.next_id) core
         (recorded (elim x as (λ z. Serving) [
           | true ↦ spend counter.Number (behind (Ids c ss got d.next_id) e (under d core))
           | false ↦ with_server (λ s. record s { number = s.number + 1 }) (behind (Ids c ss got d.next_id) e (under d core))
@@ -140,9 +140,9 @@ grant_takes c ss got ask n d e core full fits same is = subst (λ (m : ℕ). ste
     sent true p = record { rec = refl; numbers = λ room. absurd (no_room core.number (length core.recalls) last_counter p room) }
     sent false p = record { rec = refl; numbers = λ room. (refl, one_more core.number (length core.recalls) last_counter room) }
 
-    by : step (Ids c ss got d.next_id) d ≡ Ok e → Takes (Ids c ss got d.next_id) core (grant_ids c ss got ask (under d core))
+    by : step (Ids c ss got d.next_id) d ≡ Ok e → TakesRecord (Ids c ss got d.next_id) core (grant_ids c ss got ask (under d core))
     by is =
-        subst (Takes (Ids c ss got d.next_id) core)
+        subst (TakesRecord (Ids c ss got d.next_id) core)
         (sym (ap (λ x. ids_by c ss got ask (under d core) x (ids_are_spent got (under d core))) full
         ∙ ap (λ x. ids_by c ss got ask (under d core) false x) fits
         ∙ committed_by (Ids c ss got d.next_id) (λ u. send_ids c ss got d.next_id (record_ids ss d.next_id u)) stay d e core is))
@@ -189,7 +189,7 @@ module _ {K : Type 0} (did broke : K → Record → K → Type 0) where
       go (Err fault) is = inl (f fault is)
 
   -- a commit that a fault ends
-  pub hurts : (fault : ServerFault) (r : Record) (d : Durable) (core : Core) (done : Serving) (k l : K) → Fails broke fault r d core k l → ((e : Durable) → step r d ≡ Ok e → Takes r core done) → Hurts HasNumbers did broke fault done k l
+  pub hurts : (fault : ServerFault) (r : Record) (d : Durable) (core : Core) (done : Serving) (k l : K) → Fails broke fault r d core k l → ((e : Durable) → step r d ≡ Ok e → TakesRecord r core done) → Hurts HasNumbers did broke fault done k l
   hurts (Spent n) r d core done k l h f = absurd h
   hurts DiskFailed r d core done k l h f = let p = f h.1.0 h.1.1 in (p.numbers h.0, (r, p.rec, h.2))
   hurts DiskStopped r d core done k l h f = let p = f h.1.0 h.1.1 in (p.numbers h.0, (r, p.rec, h.2))
@@ -206,26 +206,26 @@ module _ {K : Type 0} (did broke : K → Record → K → Type 0) where
   hurts_start NoMemory r d core done k l (inr h) f = let p = f h.1.0 h.1.1 in inr (p.1, (r, p.0, inr h.2))
 
   -- a commit behind which there are numbers
-  pub commits : (b : Bool) (r : Record) (d e f : Durable) (old mid new : Core) (done : Serving) (before rec : Option Record) (k l : K) → b ≡ true → Commits b r d e old mid → Ends did b r before rec old k l → new.rec ≡ rec
-      → (step r d ≡ Ok e → Takes r old done) → done ≡ under f new → Moves did before new k l
+  pub commits : (b : Bool) (r : Record) (d e f : Durable) (old mid new : Core) (done : Serving) (before rec : Option Record) (k l : K) → b ≡ true → Commits b r d e old mid → EndsRecord did b r before rec old k l → new.rec ≡ rec
+      → (step r d ≡ Ok e → TakesRecord r old done) → done ≡ under f new → Moves did before new k l
   commits false r d e f old mid new done before rec k l p h q same g is = absurd cc
   commits true r d e f old mid new done before rec k l p h q same g is = inr (r, same ∙ q.0, q.1, (subst HasNumbers is ((g h.1).numbers q.2)).1)
 
   -- want of memory behind a commit
-  pub late : (b : Bool) (r : Record) (d e : Durable) (old new : Core) (done : Serving) (before after : Option Record) (k l : K) → b ≡ true → Commits b r d e old new → Ends did b r before after old k l → (step r d ≡ Ok e → Takes r old done)
+  pub late_want : (b : Bool) (r : Record) (d e : Durable) (old new : Core) (done : Serving) (before after : Option Record) (k l : K) → b ≡ true → Commits b r d e old new → EndsRecord did b r before after old k l → (step r d ≡ Ok e → TakesRecord r old done)
       → MayHave HasNumbers did broke done k l
-  late false r d e old new done before after k l p h q f = absurd cc
-  late true r d e old new done before after k l p h q f = let t = f h.1 in inr (t.numbers q.2, (r, t.rec, inl q.1))
+  late_want false r d e old new done before after k l p h q f = absurd cc
+  late_want true r d e old new done before after k l p h q f = let t = f h.1 in inr (t.numbers q.2, (r, t.rec, inl q.1))
 
   -- the same of a start
-  pub late_start : (b : Bool) (r : Record) (d e : Durable) (old new : Core) (done : Serving) (before after : Option Record) (k l : K) → b ≡ true → Commits b r d e old new → Ends did b r before after old k l
+  pub late_start : (b : Bool) (r : Record) (d e : Durable) (old new : Core) (done : Serving) (before after : Option Record) (k l : K) → b ≡ true → Commits b r d e old new → EndsRecord did b r before after old k l
       → (step r d ≡ Ok e → (done.rec ≡ Some r) × (done.spent ≡ None)) → MayHave SpendsNothing did broke done k l
   late_start false r d e old new done before after k l p h q f = absurd cc
   late_start true r d e old new done before after k l p h q f = let t = f h.1 in inr (t.1, (r, t.0, inl q.1))
 
   -- an end in the place of a refused batch
   pub hurts_refused : {U : Type 0} (res : Result U ServerFault) (x : Bool) (c ss b : ℕ) (xs ops : List (ℕ × Update)) (d e : Durable) (old new : Core) (before after : Option Record) (k m l : K) → x ≡ false → xs ≡ ops
-      → has_batch b (slot d c) ≡ false → Commits x (Batch c ss b xs) d e old new → Ends did x (Batch c ss b xs) before after old k m → IfErr res (λ fault. Hurts HasNumbers did broke fault (at_slot c (finish c) (under e new)) m l)
+      → has_batch b (slot d c) ≡ false → Commits x (Batch c ss b xs) d e old new → EndsRecord did x (Batch c ss b xs) before after old k m → IfErr res (λ fault. Hurts HasNumbers did broke fault (at_slot c (finish c) (under e new)) m l)
       → IfErr res (λ fault. Hurts HasNumbers did broke fault (at_slot c (flush c ss b ops) (under d old)) k l)
   hurts_refused res true c ss b xs ops d e old new before after k m l p same had h q r = absurd cc
   hurts_refused res false c ss b xs ops d e old new before after k m l p same had h q r =

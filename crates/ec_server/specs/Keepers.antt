@@ -50,9 +50,9 @@ abbrev pub Moves : {K : Type 0} → (K → Record → K → Type 0) → Option R
 Moves did before core old new = ((core.rec ≡ before) × (new ≡ old)) ⊎ ((r : Record) × (core.rec ≡ Some r) × did old r new × HasLeft core)
 
 -- This record was committed, and there were numbers then; or it was refused and nothing changed.
-abbrev pub Ends : {K : Type 0} → (K → Record → K → Type 0) → Bool → Record → Option Record → Option Record → Core → K → K → Type 0
-Ends did true r before after core old new = (after ≡ Some r) × did old r new × HasRoom core
-Ends did false r before after core old new = (after ≡ before) × (new ≡ old)
+abbrev pub EndsRecord : {K : Type 0} → (K → Record → K → Type 0) → Bool → Record → Option Record → Option Record → Core → K → K → Type 0
+EndsRecord did true r before after core old new = (after ≡ Some r) × did old r new × HasRoom core
+EndsRecord did false r before after core old new = (after ≡ before) × (new ≡ old)
 
 -- What a fault of one commit leaves. Where the record may be there, there were numbers then.
 abbrev pub Fails : {K : Type 0} → (K → Record → K → Type 0) → ServerFault → Record → Durable → Core → K → K → Type 0

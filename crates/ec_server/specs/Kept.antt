@@ -1,7 +1,7 @@
 -- What a keeper of the durable state promises.
 use Rattle.std.specs.Prelude.{◌≡◌, ◌+◌, ◌≤◌, ℕ, Ok, Err, Some, IsSome}
 use Rattle.ec_disk.specs.Disk.{Counts}
-use Rattle.ec_disk.specs.Effects.{IsOver}
+use Rattle.ec_disk.specs.Effects.{IsUnarmed}
 use Rattle.ec_sessions.specs.Limits.{ids_per_grant}
 use Rattle.ec_sessions.specs.declared.slot.Slot.{Slot}
 use Rattle.ec_durable.specs.Durable.{step, slot}
@@ -13,11 +13,11 @@ use Rattle.ec_server.specs.declared.keeper.KeepFault.TheVariants.{Refused, DiskF
 
 -- What is left of a keeper of this state by a record that isn't committed: a refusal changes nothing. A fault of the disk is of a record that
 -- the state would take, and leaves it in doubt. So may want of memory.
-abbrev pub Refuses : {K : Type 0} → (K → Record → K → Type 0) → KeepFault → Record → Durable → K → K → Type 0
-Refuses broke (Refused fault) r d old new = (step r d ≡ Err fault) × (new ≡ old)
-Refuses broke DiskFailed r d old new = ((e : Durable) × (step r d ≡ Ok e)) × broke old r new
-Refuses broke DiskStopped r d old new = ((e : Durable) × (step r d ≡ Ok e)) × broke old r new
-Refuses broke NoMemory r d old new = broke old r new × ((fault : RecordFault) → step r d ≡ Err fault → new ≡ old)
+abbrev pub KeeperRefuses : {K : Type 0} → (K → Record → K → Type 0) → KeepFault → Record → Durable → K → K → Type 0
+KeeperRefuses broke (Refused fault) r d old new = (step r d ≡ Err fault) × (new ≡ old)
+KeeperRefuses broke DiskFailed r d old new = ((e : Durable) × (step r d ≡ Ok e)) × broke old r new
+KeeperRefuses broke DiskStopped r d old new = ((e : Durable) × (step r d ≡ Ok e)) × broke old r new
+KeeperRefuses broke NoMemory r d old new = broke old r new × ((fault : RecordFault) → step r d ≡ Err fault → new ≡ old)
 
 -- The ids to come are ids, and so are those of each slot's last grant.
 pub record HasIds (d : Durable) : Type 0 where
@@ -29,4 +29,4 @@ pub record IsLater (old new : Counts) : Type 0 where
   pub faults : old.faults ≤ new.faults
   pub stops : old.stops ≤ new.stops
   pub armed : IsSome new.armed → IsSome old.armed
-  pub stays : IsOver old.armed → IsOver new.armed
+  pub stays : IsUnarmed old.armed → IsUnarmed new.armed

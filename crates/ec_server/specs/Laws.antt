@@ -99,28 +99,28 @@ opened c age s old b n d e before new gone claimed told p q is less = subst (Ope
         ∙ opens c age d.next_session old b n d e before new gone claimed told p q done forgets claims tells
 
 -- A want, by the token that the session has.
-abbrev pub seen : Token → Hold × ℕ
-seen k = (k.hold, k.number)
+abbrev pub token_seen : Token → Hold × ℕ
+token_seen k = (k.hold, k.number)
 
 want_by : ℕ → ℕ → ℕ → Hold → ℕ → Serving → Option Token → Serving
 want_by c ss x h last t o = elim o [ None ↦ note ss x h t | Some k ↦ elim (nat_lt last k.number) [ true ↦ send_grant c ss x k.hold k.number t | false ↦ note ss x h t ] ]
 
-pub wants_none : (c ss x : ℕ) (h : Hold) (last : ℕ) (t : Serving) → option_map seen (token t.server.tokens ss x) ≡ None → want c ss x h last t ≡ note ss x h t
+pub wants_none : (c ss x : ℕ) (h : Hold) (last : ℕ) (t : Serving) → option_map token_seen (token t.server.tokens ss x) ≡ None → want c ss x h last t ≡ note ss x h t
 unfolding want_by
 wants_none c ss x h last t = go (token t.server.tokens ss x)
   where
-    go : (o : Option Token) → option_map seen o ≡ None → want_by c ss x h last t o ≡ note ss x h t
+    go : (o : Option Token) → option_map token_seen o ≡ None → want_by c ss x h last t o ≡ note ss x h t
     go None p = refl
     go (Some k) p = absurd cc
 
-pub wants_low : (c ss x : ℕ) (h : Hold) (last : ℕ) (t : Serving) (p : Hold × ℕ) → option_map seen (token t.server.tokens ss x) ≡ Some p → p.1 ≤ last → want c ss x h last t ≡ note ss x h t
+pub wants_low : (c ss x : ℕ) (h : Hold) (last : ℕ) (t : Serving) (p : Hold × ℕ) → option_map token_seen (token t.server.tokens ss x) ≡ Some p → p.1 ≤ last → want c ss x h last t ≡ note ss x h t
 unfolding want_by
 wants_low c ss x h last t p = go (token t.server.tokens ss x)
   where
     noted : Bool → Token → Serving
     noted b k = elim b [ true ↦ send_grant c ss x k.hold k.number t | false ↦ note ss x h t ]
 
-    go : (o : Option Token) → option_map seen o ≡ Some p → p.1 ≤ last → want_by c ss x h last t o ≡ note ss x h t
+    go : (o : Option Token) → option_map token_seen o ≡ Some p → p.1 ≤ last → want_by c ss x h last t o ≡ note ss x h t
     go None e low = absurd cc
     go (Some k) e low =
         let same : k.number ≡ p.1 = ap (λ o. (unwrap_or o p).1) e in

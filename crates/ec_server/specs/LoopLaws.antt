@@ -9,7 +9,7 @@ use Rattle.ec_recall.specs.declared.want.Action.TheVariants as action
 use Rattle.ec_recall.specs.Rounds.{GrantsGoIn}
 use Rattle.ec_protocol.specs.Server.{Serving, is_grant, serve_rounds, tell_start, tell_all}
 use Rattle.ec_server.specs.Clerks.{HaveClerks}
-use Rattle.ec_server.specs.ServeLaws.{due, round, goes_round, ends_round, fewer, round_clerks}
+use Rattle.ec_server.specs.ServeLaws.{due_actions, round, goes_round, ends_round, fewer, round_clerks}
 
 -- Slots.
 
@@ -39,13 +39,13 @@ goes_in_first ts (action.Recall s x n h) more p = tt
 
 -- Rounds.
 
-pub rounds_on : (t u : Serving) (b : Bool) → round t ≡ u → b ≡ list_any is_grant (due t) → b ≡ true → serve_rounds (suc (length t.server.recalls)) t ≡ serve_rounds (suc (length u.server.recalls)) u
+pub rounds_on : (t u : Serving) (b : Bool) → round t ≡ u → b ≡ list_any is_grant (due_actions t) → b ≡ true → serve_rounds (suc (length t.server.recalls)) t ≡ serve_rounds (suc (length u.server.recalls)) u
 rounds_on t u b same is some = goes_round t (sym is ∙ some) ∙ ap (λ (v : Serving). serve_rounds (suc (length v.server.recalls)) v) same
 
-pub rounds_end : (t u : Serving) (b : Bool) → round t ≡ u → b ≡ list_any is_grant (due t) → b ≡ false → serve_rounds (suc (length t.server.recalls)) t ≡ u
+pub rounds_end : (t u : Serving) (b : Bool) → round t ≡ u → b ≡ list_any is_grant (due_actions t) → b ≡ false → serve_rounds (suc (length t.server.recalls)) t ≡ u
 rounds_end t u b same is none = ends_round t (sym is ∙ none) ∙ same
 
-pub rounds_shorten : (t u : Serving) (b : Bool) → round t ≡ u → b ≡ list_any is_grant (due t) → b ≡ true → length u.server.recalls < length t.server.recalls
+pub rounds_shorten : (t u : Serving) (b : Bool) → round t ≡ u → b ≡ list_any is_grant (due_actions t) → b ≡ true → length u.server.recalls < length t.server.recalls
 rounds_shorten t u b same is some = subst (λ (v : Serving). length v.server.recalls < length t.server.recalls) same (fewer t (sym is ∙ some))
 
 pub rounds_keep : (t u : Serving) → round t ≡ u → HaveClerks t.server → HaveClerks u.server

@@ -13,7 +13,7 @@ use Rattle.ec_recall.specs.Rounds as rounds
 use Rattle.ec_recall.specs.Laws.{counted}
 use Rattle.ec_protocol.specs.Server.{Serving, with_server, spend, next_number, act, act_all, is_grant, serve_rounds, serve, all_claimed}
 use Rattle.ec_server.specs.Keepers.{HasNumbers}
-use Rattle.ec_server.specs.ServeLaws.{due, waits, round, round_recalls}
+use Rattle.ec_server.specs.ServeLaws.{due_actions, waits, round, round_recalls}
 
 -- Numbers.
 
@@ -49,13 +49,13 @@ round_lasts : (t : Serving) → HasNumbers t → HasNumbers (round t)
 round_lasts t h =
     let ts = t.server.tokens in
     let ws = t.server.recalls in
-    let left : length ws ≡ length (filter rounds.is_grant (due t)) + length (wants_after ts ws) = omega (arith, counted ts ws) in
-    let all = all_last (due t) (length (wants_after ts ws)) (waits t) (h.0, more_left last_counter t.server.number (length ws) _ left h.1) in
+    let left : length ws ≡ length (filter rounds.is_grant (due_actions t)) + length (wants_after ts ws) = omega (arith, counted ts ws) in
+    let all = all_last (due_actions t) (length (wants_after ts ws)) (waits t) (h.0, more_left last_counter t.server.number (length ws) _ left h.1) in
     (all.0, subst (λ (l : List Want). (round t).server.number + length l ≤ last_counter) (sym (round_recalls t)) all.1)
 
 rounds_last : (k : ℕ) (t : Serving) → HasNumbers t → HasNumbers (serve_rounds k t)
 rounds_last zero t h = h
-rounds_last (suc k) t h = go (list_any is_grant (due t)) (rounds_last k (round t) (round_lasts t h))
+rounds_last (suc k) t h = go (list_any is_grant (due_actions t)) (rounds_last k (round t) (round_lasts t h))
   where
     go : (b : Bool) → HasNumbers (serve_rounds k (round t)) → HasNumbers (elim b as (λ z. Serving) [ true ↦ serve_rounds k (round t) | false ↦ round t ])
     go true rest = rest

@@ -81,23 +81,23 @@ all_recalls (a ∷ more) t = all_recalls more (act a t) ∙ act_recalls a t
 abbrev pub waits : Serving → Serving
 waits t = with_server (λ s. record s { recalls = wants_after s.tokens s.recalls }) t
 
-abbrev pub due : Serving → List Action
-due t = actions t.server.tokens t.server.recalls
+abbrev pub due_actions : Serving → List Action
+due_actions t = actions t.server.tokens t.server.recalls
 
 abbrev pub round : Serving → Serving
-round t = act_all (due t) (waits t)
+round t = act_all (due_actions t) (waits t)
 
 pub round_recalls : (t : Serving) → (round t).server.recalls ≡ wants_after t.server.tokens t.server.recalls
-round_recalls t = all_recalls (due t) (waits t)
+round_recalls t = all_recalls (due_actions t) (waits t)
 
 same_grants : (as' : List Action) → list_any is_grant as' ≡ list_any rounds.is_grant as'
 same_grants [] = refl
 same_grants (action.Grant ss x h ∷ more) = refl
 same_grants (action.Recall ss x n h ∷ more) = same_grants more
 
-pub fewer : (t : Serving) → list_any is_grant (due t) ≡ true → length (round t).server.recalls < length t.server.recalls
+pub fewer : (t : Serving) → list_any is_grant (due_actions t) ≡ true → length (round t).server.recalls < length t.server.recalls
 fewer t some =
-    let less : length (wants_after t.server.tokens t.server.recalls) < length t.server.recalls = shorter t.server.tokens t.server.recalls (sym (same_grants (due t)) ∙ some) in
+    let less : length (wants_after t.server.tokens t.server.recalls) < length t.server.recalls = shorter t.server.tokens t.server.recalls (sym (same_grants (due_actions t)) ∙ some) in
     subst (λ (ws : List Want). length ws < length t.server.recalls) (sym (round_recalls t)) less
 
 go_on : ℕ → Serving → Bool → Serving
@@ -108,27 +108,27 @@ enough : (j k : ℕ) (t : Serving) → length t.server.recalls < j → length t.
 unfolding go_on
 enough zero k t p q = absurd (omega arith)
 enough (suc j) zero t p q = absurd (omega arith)
-enough (suc j) (suc k) t p q = go (list_any is_grant (due t)) refl (enough j k (round t))
+enough (suc j) (suc k) t p q = go (list_any is_grant (due_actions t)) refl (enough j k (round t))
   where
-    go : (b : Bool) → list_any is_grant (due t) ≡ b → (length (round t).server.recalls < j → length (round t).server.recalls < k → serve_rounds j (round t) ≡ serve_rounds k (round t))
-        → go_on j (round t) (list_any is_grant (due t)) ≡ go_on k (round t) (list_any is_grant (due t))
+    go : (b : Bool) → list_any is_grant (due_actions t) ≡ b → (length (round t).server.recalls < j → length (round t).server.recalls < k → serve_rounds j (round t) ≡ serve_rounds k (round t))
+        → go_on j (round t) (list_any is_grant (due_actions t)) ≡ go_on k (round t) (list_any is_grant (due_actions t))
     go true e rest = ap (go_on j (round t)) e ∙ rest (omega (arith, fewer t e, p)) (omega (arith, fewer t e, q)) ∙ sym (ap (go_on k (round t)) e)
     go false e rest = ap (go_on j (round t)) e ∙ sym (ap (go_on k (round t)) e)
 
-pub goes_round : (t : Serving) → list_any is_grant (due t) ≡ true → serve_rounds (suc (length t.server.recalls)) t ≡ serve_rounds (suc (length (round t).server.recalls)) (round t)
+pub goes_round : (t : Serving) → list_any is_grant (due_actions t) ≡ true → serve_rounds (suc (length t.server.recalls)) t ≡ serve_rounds (suc (length (round t).server.recalls)) (round t)
 unfolding go_on
 goes_round t e = ap (go_on (length t.server.recalls) (round t)) e ∙ enough (length t.server.recalls) (suc (length (round t).server.recalls)) (round t) (fewer t e) (omega arith)
 
-pub ends_round : (t : Serving) → list_any is_grant (due t) ≡ false → serve_rounds (suc (length t.server.recalls)) t ≡ round t
+pub ends_round : (t : Serving) → list_any is_grant (due_actions t) ≡ false → serve_rounds (suc (length t.server.recalls)) t ≡ round t
 unfolding go_on
 ends_round t e = ap (go_on (length t.server.recalls) (round t)) e
 
 round_serves : (t : Serving) → Serves t (round t)
-round_serves t = let a = all_serves (due t) (waits t) in record { durable = a.durable; rec = a.rec; spent = a.spent }
+round_serves t = let a = all_serves (due_actions t) (waits t) in record { durable = a.durable; rec = a.rec; spent = a.spent }
 
 rounds_serve : (k : ℕ) (t : Serving) → Serves t (serve_rounds k t)
 rounds_serve zero t = serves_same t
-rounds_serve (suc k) t = go (list_any is_grant (due t)) (rounds_serve k (round t))
+rounds_serve (suc k) t = go (list_any is_grant (due_actions t)) (rounds_serve k (round t))
   where
     go : (b : Bool) → Serves (round t) (serve_rounds k (round t)) → Serves t (elim b as (λ z. Serving) [ true ↦ serve_rounds k (round t) | false ↦ round t ])
     go true rest = serves_then t (round t) (serve_rounds k (round t)) (round_serves t) rest
@@ -162,15 +162,15 @@ all_clerks : (as' : List Action) (t : Serving) → Each (λ a. IsOpenIn t.server
 all_clerks [] t p k = k
 all_clerks (a ∷ more) t p k = all_clerks more (act a t) (subst (λ (d : Durable). Each (λ b. IsOpenIn d.sessions (session_of b)) more) (sym (act_serves a t).durable) p.1) (act_clerks a t p.0 k)
 
-pub due_clerks : (t : Serving) → HaveClerks t.server → Each (λ a. IsOpenIn t.server.durable.sessions (session_of a)) (due t)
+pub due_clerks : (t : Serving) → HaveClerks t.server → Each (λ a. IsOpenIn t.server.durable.sessions (session_of a)) (due_actions t)
 due_clerks t k = each_action (IsOpenIn t.server.durable.sessions) t.server.tokens [] t.server.recalls k.tokens k.wants
 
 pub round_clerks : (t : Serving) → HaveClerks t.server → HaveClerks (round t).server
-round_clerks t k = all_clerks (due t) (waits t) (due_clerks t k) (record { tokens = k.tokens; wants = each_stay (IsOpenIn t.server.durable.sessions) t.server.tokens [] t.server.recalls k.wants })
+round_clerks t k = all_clerks (due_actions t) (waits t) (due_clerks t k) (record { tokens = k.tokens; wants = each_stay (IsOpenIn t.server.durable.sessions) t.server.tokens [] t.server.recalls k.wants })
 
 rounds_clerks : (k : ℕ) (t : Serving) → HaveClerks t.server → HaveClerks (serve_rounds k t).server
 rounds_clerks zero t h = h
-rounds_clerks (suc k) t h = go (list_any is_grant (due t)) (rounds_clerks k (round t) (round_clerks t h))
+rounds_clerks (suc k) t h = go (list_any is_grant (due_actions t)) (rounds_clerks k (round t) (round_clerks t h))
   where
     go : (b : Bool) → HaveClerks (serve_rounds k (round t)).server → HaveClerks (elim b as (λ z. Serving) [ true ↦ serve_rounds k (round t) | false ↦ round t ]).server
     go true rest = rest

@@ -2,7 +2,7 @@
 use Rattle.std.specs.Prelude.{◌≡◌, ◌==◌, ℕ, Bool, true, false, Option, None, Some, Ok, Err, is_some, IsSome}
 use Rattle.ec_base.specs.Outside.{Rose}
 use Rattle.ec_disk.specs.Disk.{Counts}
-use Rattle.ec_disk.specs.Effects.{IsOver}
+use Rattle.ec_disk.specs.Effects.{IsUnarmed}
 use Rattle.ec_wire.specs.declared.msg.Msg.{Msg}
 use Rattle.ec_wire.specs.declared.msg.Msg.TheVariants as msg
 use Rattle.ec_sessions.specs.declared.window.Window.{Window}
@@ -40,18 +40,18 @@ abbrev pub at_slot : ℕ → (Slot → Serving → Serving) → Serving → Serv
 at_slot c f t = elim (slot_of c t) [ None ↦ t | Some sl ↦ f sl t ]
 
 -- What a fault leaves: a spent counter is the machine's, and leaves the server as it was. A fault of the disk has risen its count, and one that stopped stays so.
-abbrev pub Leaves : ServerFault → Counts → Counts → Serving → Server → Server → Type 0
-Leaves (Spent n) before after done old new = (done.spent ≡ Some n) × (new ≡ old)
-Leaves DiskFailed before after done old new = Rose before.faults after.faults
-Leaves DiskStopped before after done old new = Rose before.stops after.stops × IsSome before.armed × IsOver after.armed
-Leaves NoMemory before after done old new = Unit {0}
+abbrev pub FaultLeaves : ServerFault → Counts → Counts → Serving → Server → Server → Type 0
+FaultLeaves (Spent n) before after done old new = (done.spent ≡ Some n) × (new ≡ old)
+FaultLeaves DiskFailed before after done old new = Rose before.faults after.faults
+FaultLeaves DiskStopped before after done old new = Rose before.stops after.stops × IsSome before.armed × IsUnarmed after.armed
+FaultLeaves NoMemory before after done old new = Unit {0}
 
 -- The same, where no counter is spent.
-abbrev pub Stops : ServerFault → Counts → Counts → Type 0
-Stops (Spent n) before after = ⊥
-Stops DiskFailed before after = Rose before.faults after.faults
-Stops DiskStopped before after = Rose before.stops after.stops × IsSome before.armed × IsOver after.armed
-Stops NoMemory before after = Unit {0}
+abbrev pub StopsServer : ServerFault → Counts → Counts → Type 0
+StopsServer (Spent n) before after = ⊥
+StopsServer DiskFailed before after = Rose before.faults after.faults
+StopsServer DiskStopped before after = Rose before.stops after.stops × IsSome before.armed × IsUnarmed after.armed
+StopsServer NoMemory before after = Unit {0}
 
 -- A record was committed, or was refused and nothing changed.
 abbrev pub Commits : Bool → Record → Durable → Durable → Core → Core → Type 0

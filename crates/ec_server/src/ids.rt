@@ -8,7 +8,7 @@ ghost use Rattle.ec_durable.specs.declared.state.Durable.{Durable};
 ghost use Rattle.ec_protocol.specs.Server as machine;
 ghost use Rattle.ec_server.specs.Keepers.{Moves, Hurts, HasNumbers};
 ghost use Rattle.ec_server.specs.Kept.{IsLater};
-ghost use Rattle.ec_server.specs.Steps.{under, server, at_slot, Leaves};
+ghost use Rattle.ec_server.specs.Steps.{under, server, at_slot, FaultLeaves};
 
 use crate::fault::ServerFault;
 use crate::keeper::Keeper;
@@ -30,7 +30,7 @@ impl Core {
         ask: u64,
     ) -> Result<(), ServerFault>
         ensures ok { OnOk result (at_slot clerk (machine.room clerk session got ask) (under (K.kept keeper.old) self.old) ≡ under (K.kept keeper.new) self.new) }
-        ensures err { IfErr result (λ fault. Leaves fault (K.counts keeper.old) (K.counts keeper.new) (at_slot clerk (machine.room clerk session got ask) (under (K.kept keeper.old) self.old)) (server (K.kept keeper.old) self.old) (server (K.kept keeper.new) self.new)) }
+        ensures err { IfErr result (λ fault. FaultLeaves fault (K.counts keeper.old) (K.counts keeper.new) (at_slot clerk (machine.room clerk session got ask) (under (K.kept keeper.old) self.old)) (server (K.kept keeper.old) self.old) (server (K.kept keeper.new) self.new)) }
         ensures did { OnOk result (Moves K.did self.old.rec self.new keeper.old keeper.new) }
         ensures keeper { IfErr result (λ fault. Hurts HasNumbers K.did K.broke fault (at_slot clerk (machine.room clerk session got ask) (under (K.kept keeper.old) self.old)) keeper.old keeper.new) }
         ensures later { IsLater (K.counts keeper.old) (K.counts keeper.new) }
@@ -59,7 +59,7 @@ impl Core {
         ask: u64,
     ) -> Result<(), ServerFault>
         ensures ok { OnOk result (machine.grant_ids clerk session got ask (under (K.kept keeper.old) self.old) ≡ under (K.kept keeper.new) self.new) }
-        ensures err { IfErr result (λ fault. Leaves fault (K.counts keeper.old) (K.counts keeper.new) (machine.grant_ids clerk session got ask (under (K.kept keeper.old) self.old)) (server (K.kept keeper.old) self.old) (server (K.kept keeper.new) self.new)) }
+        ensures err { IfErr result (λ fault. FaultLeaves fault (K.counts keeper.old) (K.counts keeper.new) (machine.grant_ids clerk session got ask (under (K.kept keeper.old) self.old)) (server (K.kept keeper.old) self.old) (server (K.kept keeper.new) self.new)) }
         ensures did { OnOk result (Moves K.did self.old.rec self.new keeper.old keeper.new) }
         ensures keeper { IfErr result (λ fault. Hurts HasNumbers K.did K.broke fault (machine.grant_ids clerk session got ask (under (K.kept keeper.old) self.old)) keeper.old keeper.new) }
         ensures later { IsLater (K.counts keeper.old) (K.counts keeper.new) }
@@ -90,7 +90,7 @@ impl Core {
     ) -> Result<(), ServerFault>
         requires { first + ids_per_grant ≤ 2 ^ 32 }
         ensures ok { OnOk result (machine.resend_ids clerk session got (Some first) (under (K.kept keeper.now) self.old) ≡ under (K.kept keeper.now) self.new) }
-        ensures err { IfErr result (λ fault. Leaves fault (K.counts keeper.now) (K.counts keeper.now) (machine.resend_ids clerk session got (Some first) (under (K.kept keeper.now) self.old)) (server (K.kept keeper.now) self.old) (server (K.kept keeper.now) self.new)) }
+        ensures err { IfErr result (λ fault. FaultLeaves fault (K.counts keeper.now) (K.counts keeper.now) (machine.resend_ids clerk session got (Some first) (under (K.kept keeper.now) self.old)) (server (K.kept keeper.now) self.old) (server (K.kept keeper.now) self.new)) }
         ensures rec { OnOk result (self.new.rec ≡ self.old.rec) }
         ensures keeper { IfErr result (λ fault. Hurts HasNumbers K.did K.broke fault (machine.resend_ids clerk session got (Some first) (under (K.kept keeper.now) self.old)) keeper.now keeper.now) }
     {

@@ -5,7 +5,7 @@ ghost use Rattle.ec_disk.specs.Effects.{Counted};
 ghost use Rattle.ec_durable.specs.SoundRecords.{is_sound_record};
 ghost use Rattle.ec_durable.specs.Durable.{step};
 ghost use Rattle.ec_durable.specs.WellFormed.{IsInOrder};
-ghost use Rattle.ec_server.specs.Kept.{Refuses, HasIds};
+ghost use Rattle.ec_server.specs.Kept.{KeeperRefuses, HasIds};
 ghost use Rattle.ec_durable.specs.declared.state.Durable.{Durable as State};
 ghost use Rattle.ec_durable.specs.declared.record.Record.{Record as Change};
 ghost use Rattle.ec_server.specs.declared.keeper.KeepFault.TheVariants as fault;
@@ -53,7 +53,7 @@ pub trait Keeper {
         requires sound { is_sound_record change.now ≡ true }
         ensures ok { OnOk result (step change.now (kept self.old) ≡ Ok (kept self.new)) }
         ensures did { OnOk result (did self.old change.now self.new) }
-        ensures err { IfErr result (λ fault. Refuses broke fault change.now (kept self.old) self.old self.new) }
+        ensures err { IfErr result (λ fault. KeeperRefuses broke fault change.now (kept self.old) self.old self.new) }
         ensures counts { Counted (counts self.old) (counts self.new) (result ≡ Err fault.DiskFailed) (result ≡ Err fault.DiskStopped) };
 }
 

@@ -6,7 +6,7 @@ ghost use Rattle.ec_admission.specs.Clerks.{is_last};
 ghost use Rattle.ec_server.specs.CallLaws.{IsFromOne};
 ghost use Rattle.ec_server.specs.Keepers.{Moves, Hurts, HasNumbers};
 ghost use Rattle.ec_server.specs.Kept.{IsLater};
-ghost use Rattle.ec_server.specs.Steps.{under, server, at_slot, Admits, Leaves, IsLast, does};
+ghost use Rattle.ec_server.specs.Steps.{under, server, at_slot, Admits, FaultLeaves, IsLast, does};
 ghost use Rattle.ec_protocol.specs.Server as machine;
 
 use crate::fault::ServerFault;
@@ -55,7 +55,7 @@ impl Core {
     ) -> Result<(), ServerFault>
         requires { IsTrue (is_sound msg.now) }
         ensures ok { OnOk result (machine.taken clerk msg.now (under (K.kept keeper.old) self.old) ≡ under (K.kept keeper.new) self.new) }
-        ensures err { IfErr result (λ fault. Leaves fault (K.counts keeper.old) (K.counts keeper.new) (machine.taken clerk msg.now (under (K.kept keeper.old) self.old)) (server (K.kept keeper.old) self.old) (server (K.kept keeper.new) self.new)) }
+        ensures err { IfErr result (λ fault. FaultLeaves fault (K.counts keeper.old) (K.counts keeper.new) (machine.taken clerk msg.now (under (K.kept keeper.old) self.old)) (server (K.kept keeper.old) self.old) (server (K.kept keeper.new) self.new)) }
         ensures did { OnOk result (Moves K.did self.old.rec self.new keeper.old keeper.new) }
         ensures keeper { IfErr result (λ fault. Hurts HasNumbers K.did K.broke fault (machine.taken clerk msg.now (under (K.kept keeper.old) self.old)) keeper.old keeper.new) }
         ensures later { IsLater (K.counts keeper.old) (K.counts keeper.new) }
@@ -92,7 +92,7 @@ impl Core {
         requires sound { IsTrue (is_sound msg.now) }
         requires slot { is_some (slot (K.kept keeper.old) clerk) ≡ true }
         ensures ok { OnOk result (at_slot clerk (does clerk msg.now) (under (K.kept keeper.old) self.old) ≡ under (K.kept keeper.new) self.new) }
-        ensures err { IfErr result (λ fault. Leaves fault (K.counts keeper.old) (K.counts keeper.new) (at_slot clerk (does clerk msg.now) (under (K.kept keeper.old) self.old)) (server (K.kept keeper.old) self.old) (server (K.kept keeper.new) self.new)) }
+        ensures err { IfErr result (λ fault. FaultLeaves fault (K.counts keeper.old) (K.counts keeper.new) (at_slot clerk (does clerk msg.now) (under (K.kept keeper.old) self.old)) (server (K.kept keeper.old) self.old) (server (K.kept keeper.new) self.new)) }
         ensures did { OnOk result (Moves K.did self.old.rec self.new keeper.old keeper.new) }
         ensures keeper { IfErr result (λ fault. Hurts HasNumbers K.did K.broke fault (at_slot clerk (does clerk msg.now) (under (K.kept keeper.old) self.old)) keeper.old keeper.new) }
         ensures later { IsLater (K.counts keeper.old) (K.counts keeper.new) }

@@ -12,7 +12,7 @@ ghost use Rattle.ec_protocol.specs.Server as machine;
 ghost use Rattle.ec_server.specs.Clerks.{Records};
 ghost use Rattle.ec_server.specs.Keepers.{Did, Hurts, SpendsNothing};
 ghost use Rattle.ec_server.specs.Servers.{standing, Does, Unstarted, GoesDown, StandsOn};
-ghost use Rattle.ec_server.specs.Steps.{Leaves};
+ghost use Rattle.ec_server.specs.Steps.{FaultLeaves};
 ghost use Rattle.ec_durable.specs.declared.state.Durable.{Durable as Kept};
 ghost use Rattle.ec_server.specs.declared.fault.ServerFault.TheVariants as fault;
 
@@ -93,7 +93,7 @@ impl Server {
         requires sound { IsTrue (is_sound msg.now) }
         requires keeper { StandsOn (K.kept keeper.old) self.old }
         ensures ok { IfOk result (λ served. Does (machine.take from msg.now (standing (K.kept keeper.old) self.old)) (K.kept keeper.new) self.new served) }
-        ensures err { IfErr result (λ fault. Leaves fault (K.counts keeper.old) (K.counts keeper.new) (machine.take from msg.now (standing (K.kept keeper.old) self.old)) (standing (K.kept keeper.old) self.old) (standing (K.kept keeper.new) self.new)) }
+        ensures err { IfErr result (λ fault. FaultLeaves fault (K.counts keeper.old) (K.counts keeper.new) (machine.take from msg.now (standing (K.kept keeper.old) self.old)) (standing (K.kept keeper.old) self.old) (standing (K.kept keeper.new) self.new)) }
         ensures did { IfOk result (λ served. Did K.did served.rec keeper.old keeper.new) }
         ensures keeper { IfErr result (λ fault. Hurts SpendsNothing K.did K.broke fault (machine.take from msg.now (standing (K.kept keeper.old) self.old)) keeper.old keeper.new) }
         ensures rests { self.old.is_down ≡ true → keeper.new ≡ keeper.old }
@@ -121,7 +121,7 @@ impl Server {
         requires { StandsOn (K.kept keeper.old) self.old }
         ensures ok { IfOk result (λ served. Does (machine.end clerk (standing (K.kept keeper.old) self.old)) (K.kept keeper.new) self.new served) }
         ensures none { IfOk result (λ served. (served.rec ≡ None) ↔ (is_open (slot (K.kept keeper.old) clerk) ≡ false)) }
-        ensures err { IfErr result (λ fault. Leaves fault (K.counts keeper.old) (K.counts keeper.new) (machine.end clerk (standing (K.kept keeper.old) self.old)) (standing (K.kept keeper.old) self.old) (standing (K.kept keeper.new) self.new)) }
+        ensures err { IfErr result (λ fault. FaultLeaves fault (K.counts keeper.old) (K.counts keeper.new) (machine.end clerk (standing (K.kept keeper.old) self.old)) (standing (K.kept keeper.old) self.old) (standing (K.kept keeper.new) self.new)) }
         ensures did { IfOk result (λ served. Did K.did served.rec keeper.old keeper.new) }
         ensures keeper { IfErr result (λ fault. Hurts SpendsNothing K.did K.broke fault (machine.end clerk (standing (K.kept keeper.old) self.old)) keeper.old keeper.new) }
         ensures rests { self.old.is_down ≡ true → keeper.new ≡ keeper.old }

@@ -6,7 +6,7 @@ ghost use Rattle.ec_durable.specs.declared.state.Durable.{Durable};
 ghost use Rattle.ec_protocol.specs.Server as machine;
 ghost use Rattle.ec_server.specs.Keepers.{Moves, Hurts, HasNumbers};
 ghost use Rattle.ec_server.specs.Kept.{IsLater};
-ghost use Rattle.ec_server.specs.Steps.{under, server, at_slot, Leaves, Stops};
+ghost use Rattle.ec_server.specs.Steps.{under, server, at_slot, FaultLeaves, StopsServer};
 
 use crate::fault::ServerFault;
 use crate::keeper::Keeper;
@@ -24,7 +24,7 @@ impl Core {
         clerk: ClerkId,
     ) -> Result<(), ServerFault>
         ensures ok { OnOk result (at_slot clerk (machine.finish clerk) (under (K.kept keeper.old) self.old) ≡ under (K.kept keeper.new) self.new) }
-        ensures err { IfErr result (λ fault. Stops fault (K.counts keeper.old) (K.counts keeper.new)) }
+        ensures err { IfErr result (λ fault. StopsServer fault (K.counts keeper.old) (K.counts keeper.new)) }
         ensures did { OnOk result (Moves K.did self.old.rec self.new keeper.old keeper.new) }
         ensures keeper { IfErr result (λ fault. Hurts HasNumbers K.did K.broke fault (at_slot clerk (machine.finish clerk) (under (K.kept keeper.old) self.old)) keeper.old keeper.new) }
         ensures later { IsLater (K.counts keeper.old) (K.counts keeper.new) }
@@ -47,7 +47,7 @@ impl Core {
         age: Age,
     ) -> Result<(), ServerFault>
         ensures ok { OnOk result (machine.hello clerk from age (under (K.kept keeper.old) self.old) ≡ under (K.kept keeper.new) self.new) }
-        ensures err { IfErr result (λ fault. Leaves fault (K.counts keeper.old) (K.counts keeper.new) (machine.hello clerk from age (under (K.kept keeper.old) self.old)) (server (K.kept keeper.old) self.old) (server (K.kept keeper.new) self.new)) }
+        ensures err { IfErr result (λ fault. FaultLeaves fault (K.counts keeper.old) (K.counts keeper.new) (machine.hello clerk from age (under (K.kept keeper.old) self.old)) (server (K.kept keeper.old) self.old) (server (K.kept keeper.new) self.new)) }
         ensures did { OnOk result (Moves K.did self.old.rec self.new keeper.old keeper.new) }
         ensures keeper { IfErr result (λ fault. Hurts HasNumbers K.did K.broke fault (machine.hello clerk from age (under (K.kept keeper.old) self.old)) keeper.old keeper.new) }
         ensures later { IsLater (K.counts keeper.old) (K.counts keeper.new) }
@@ -67,7 +67,7 @@ impl Core {
         greeting: Greeting,
     ) -> Result<(), ServerFault>
         ensures ok { OnOk result (machine.greet clerk age greeting (under (K.kept keeper.old) self.old) ≡ under (K.kept keeper.new) self.new) }
-        ensures err { IfErr result (λ fault. Leaves fault (K.counts keeper.old) (K.counts keeper.new) (machine.greet clerk age greeting (under (K.kept keeper.old) self.old)) (server (K.kept keeper.old) self.old) (server (K.kept keeper.new) self.new)) }
+        ensures err { IfErr result (λ fault. FaultLeaves fault (K.counts keeper.old) (K.counts keeper.new) (machine.greet clerk age greeting (under (K.kept keeper.old) self.old)) (server (K.kept keeper.old) self.old) (server (K.kept keeper.new) self.new)) }
         ensures did { OnOk result (Moves K.did self.old.rec self.new keeper.old keeper.new) }
         ensures keeper { IfErr result (λ fault. Hurts HasNumbers K.did K.broke fault (machine.greet clerk age greeting (under (K.kept keeper.old) self.old)) keeper.old keeper.new) }
         ensures later { IsLater (K.counts keeper.old) (K.counts keeper.new) }
@@ -94,7 +94,7 @@ impl Core {
         old: Option<SessionNo>,
     ) -> Result<(), ServerFault>
         ensures ok { OnOk result (machine.open_new clerk age old (under (K.kept keeper.old) self.old) ≡ under (K.kept keeper.new) self.new) }
-        ensures err { IfErr result (λ fault. Leaves fault (K.counts keeper.old) (K.counts keeper.new) (machine.open_new clerk age old (under (K.kept keeper.old) self.old)) (server (K.kept keeper.old) self.old) (server (K.kept keeper.new) self.new)) }
+        ensures err { IfErr result (λ fault. FaultLeaves fault (K.counts keeper.old) (K.counts keeper.new) (machine.open_new clerk age old (under (K.kept keeper.old) self.old)) (server (K.kept keeper.old) self.old) (server (K.kept keeper.new) self.new)) }
         ensures did { OnOk result (Moves K.did self.old.rec self.new keeper.old keeper.new) }
         ensures keeper { IfErr result (λ fault. Hurts HasNumbers K.did K.broke fault (machine.open_new clerk age old (under (K.kept keeper.old) self.old)) keeper.old keeper.new) }
         ensures later { IsLater (K.counts keeper.old) (K.counts keeper.new) }

@@ -5,9 +5,9 @@ ghost use Rattle.ec_base.specs.Limits.{last_counter};
 ghost use Rattle.ec_durable.specs.SoundRecords.{is_sound_record};
 ghost use Rattle.ec_protocol.specs.Server as machine;
 ghost use Rattle.ec_volume.specs.Update.{member};
-ghost use Rattle.ec_server.specs.Keepers.{HasRoom, Ends, Fails};
+ghost use Rattle.ec_server.specs.Keepers.{HasRoom, EndsRecord, Fails};
 ghost use Rattle.ec_server.specs.Kept.{IsLater};
-ghost use Rattle.ec_server.specs.Steps.{under, server, Commits, Stops};
+ghost use Rattle.ec_server.specs.Steps.{under, server, Commits, StopsServer};
 ghost use Rattle.ec_durable.specs.declared.state.Durable.{Durable};
 
 use crate::fault::ServerFault;
@@ -100,8 +100,8 @@ impl Core {
     ) -> Result<bool, ServerFault>
         requires { is_sound_record change ≡ true }
         ensures ok { IfOk result (λ is_done. Commits is_done change (K.kept keeper.old) (K.kept keeper.new) self.old self.new) }
-        ensures err { IfErr result (λ fault. Stops fault (K.counts keeper.old) (K.counts keeper.new)) }
-        ensures did { IfOk result (λ is_done. Ends K.did is_done change self.old.rec self.new.rec self.old keeper.old keeper.new) }
+        ensures err { IfErr result (λ fault. StopsServer fault (K.counts keeper.old) (K.counts keeper.new)) }
+        ensures did { IfOk result (λ is_done. EndsRecord K.did is_done change self.old.rec self.new.rec self.old keeper.old keeper.new) }
         ensures keeper { IfErr result (λ fault. Fails K.broke fault change (K.kept keeper.old) self.old keeper.old keeper.new) }
         ensures later { IsLater (K.counts keeper.old) (K.counts keeper.new) }
     {

@@ -8,7 +8,7 @@ ghost use Rattle.ec_protocol.specs.Server as machine;
 ghost use Rattle.ec_server.specs.Clerks.{HaveClerks};
 ghost use Rattle.ec_server.specs.Keepers.{Did, Moves, Hurts, HasNumbers, SpendsNothing};
 ghost use Rattle.ec_server.specs.Kept.{IsLater};
-ghost use Rattle.ec_server.specs.Steps.{under, server, Leaves};
+ghost use Rattle.ec_server.specs.Steps.{under, server, FaultLeaves};
 
 use crate::fault::ServerFault;
 use crate::keeper::Keeper;
@@ -29,7 +29,7 @@ impl Core {
         requires sound { IsTrue (is_sound msg.now) }
         requires clerks { HaveClerks (server (K.kept keeper.old) self.old) }
         ensures ok { OnOk result (machine.take from msg.now (server (K.kept keeper.old) self.old) ≡ under (K.kept keeper.new) self.new) }
-        ensures err { IfErr result (λ fault. Leaves fault (K.counts keeper.old) (K.counts keeper.new) (machine.take from msg.now (server (K.kept keeper.old) self.old)) (server (K.kept keeper.old) self.old) (server (K.kept keeper.new) self.new)) }
+        ensures err { IfErr result (λ fault. FaultLeaves fault (K.counts keeper.old) (K.counts keeper.new) (machine.take from msg.now (server (K.kept keeper.old) self.old)) (server (K.kept keeper.old) self.old) (server (K.kept keeper.new) self.new)) }
         ensures did { OnOk result (Did K.did self.new.rec keeper.old keeper.new) }
         ensures keeper { IfErr result (λ fault. Hurts SpendsNothing K.did K.broke fault (machine.take from msg.now (server (K.kept keeper.old) self.old)) keeper.old keeper.new) }
         ensures later { IsLater (K.counts keeper.old) (K.counts keeper.new) }
@@ -48,7 +48,7 @@ impl Core {
     ) -> Result<(), ServerFault>
         requires { HaveClerks (server (K.kept keeper.old) self.old) }
         ensures ok { OnOk result (machine.end clerk (server (K.kept keeper.old) self.old) ≡ under (K.kept keeper.new) self.new) }
-        ensures err { IfErr result (λ fault. Leaves fault (K.counts keeper.old) (K.counts keeper.new) (machine.end clerk (server (K.kept keeper.old) self.old)) (server (K.kept keeper.old) self.old) (server (K.kept keeper.new) self.new)) }
+        ensures err { IfErr result (λ fault. FaultLeaves fault (K.counts keeper.old) (K.counts keeper.new) (machine.end clerk (server (K.kept keeper.old) self.old)) (server (K.kept keeper.old) self.old) (server (K.kept keeper.new) self.new)) }
         ensures did { OnOk result (Did K.did self.new.rec keeper.old keeper.new) }
         ensures keeper { IfErr result (λ fault. Hurts SpendsNothing K.did K.broke fault (machine.end clerk (server (K.kept keeper.old) self.old)) keeper.old keeper.new) }
         ensures later { IsLater (K.counts keeper.old) (K.counts keeper.new) }
@@ -61,7 +61,7 @@ impl Core {
 
     fn end_open<K: Keeper>(&mut self, keeper: &mut K, clerk: ClerkId) -> Result<(), ServerFault>
         ensures ok { OnOk result (machine.end_open clerk (slot (K.kept keeper.old) clerk) (under (K.kept keeper.old) self.old) ≡ under (K.kept keeper.new) self.new) }
-        ensures err { IfErr result (λ fault. Leaves fault (K.counts keeper.old) (K.counts keeper.new) (machine.end_open clerk (slot (K.kept keeper.old) clerk) (under (K.kept keeper.old) self.old)) (server (K.kept keeper.old) self.old) (server (K.kept keeper.new) self.new)) }
+        ensures err { IfErr result (λ fault. FaultLeaves fault (K.counts keeper.old) (K.counts keeper.new) (machine.end_open clerk (slot (K.kept keeper.old) clerk) (under (K.kept keeper.old) self.old)) (server (K.kept keeper.old) self.old) (server (K.kept keeper.new) self.new)) }
         ensures did { OnOk result (Moves K.did self.old.rec self.new keeper.old keeper.new) }
         ensures keeper { IfErr result (λ fault. Hurts HasNumbers K.did K.broke fault (machine.end_open clerk (slot (K.kept keeper.old) clerk) (under (K.kept keeper.old) self.old)) keeper.old keeper.new) }
         ensures later { IsLater (K.counts keeper.old) (K.counts keeper.new) }
@@ -77,7 +77,7 @@ impl Core {
     pub(crate) fn start<K: Keeper>(&mut self, keeper: &mut K) -> Result<(), ServerFault>
         requires { (d : Durable) → under d self.old ≡ machine.serving (machine.new_server d) }
         ensures ok { OnOk result (machine.start (K.kept keeper.old) ≡ under (K.kept keeper.new) self.new) }
-        ensures err { IfErr result (λ fault. Leaves fault (K.counts keeper.old) (K.counts keeper.new) (machine.start (K.kept keeper.old)) (server (K.kept keeper.old) self.old) (server (K.kept keeper.new) self.new)) }
+        ensures err { IfErr result (λ fault. FaultLeaves fault (K.counts keeper.old) (K.counts keeper.new) (machine.start (K.kept keeper.old)) (server (K.kept keeper.old) self.old) (server (K.kept keeper.new) self.new)) }
         ensures did { OnOk result (Did K.did self.new.rec keeper.old keeper.new) }
         ensures keeper { IfErr result (λ fault. Hurts SpendsNothing K.did K.broke fault (machine.start (K.kept keeper.old)) keeper.old keeper.new) }
         ensures later { IsLater (K.counts keeper.old) (K.counts keeper.new) }

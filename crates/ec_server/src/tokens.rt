@@ -9,7 +9,7 @@ ghost use Rattle.ec_durable.specs.declared.state.Durable.{Durable};
 ghost use Rattle.ec_protocol.specs.Server as machine;
 ghost use Rattle.ec_server.specs.Keepers.{Moves, Hurts, HasNumbers};
 ghost use Rattle.ec_server.specs.Kept.{IsLater};
-ghost use Rattle.ec_server.specs.Steps.{under, server, at_slot, Stops};
+ghost use Rattle.ec_server.specs.Steps.{under, server, at_slot, StopsServer};
 
 use crate::fault::ServerFault;
 use crate::keeper::Keeper;
@@ -98,7 +98,7 @@ impl Core {
         requires list { IsTrue (is_claim list.now) }
         requires slot { is_some (slot (K.kept keeper.old) clerk) ≡ true }
         ensures ok { OnOk result (at_slot clerk (machine.claim clerk session list.now) (under (K.kept keeper.old) self.old) ≡ under (K.kept keeper.new) self.new) }
-        ensures err { IfErr result (λ fault. Stops fault (K.counts keeper.old) (K.counts keeper.new)) }
+        ensures err { IfErr result (λ fault. StopsServer fault (K.counts keeper.old) (K.counts keeper.new)) }
         ensures did { OnOk result (Moves K.did self.old.rec self.new keeper.old keeper.new) }
         ensures keeper { IfErr result (λ fault. Hurts HasNumbers K.did K.broke fault (at_slot clerk (machine.claim clerk session list.now) (under (K.kept keeper.old) self.old)) keeper.old keeper.new) }
         ensures later { IsLater (K.counts keeper.old) (K.counts keeper.new) }

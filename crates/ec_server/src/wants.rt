@@ -6,7 +6,7 @@ ghost use Rattle.ec_tokens.specs.SoundTokens.{IsSound};
 ghost use Rattle.ec_protocol.specs.Server as machine;
 ghost use Rattle.ec_admission.specs.Clerks.{IsOpenIn};
 ghost use Rattle.ec_server.specs.Clerks.{HaveClerks, Each, session_of};
-ghost use Rattle.ec_server.specs.ServeLaws.{due, round};
+ghost use Rattle.ec_server.specs.ServeLaws.{due_actions, round};
 ghost use Rattle.ec_server.specs.Steps.{under, server};
 ghost use Rattle.ec_recall.specs.Rounds.{GrantsGoIn};
 ghost use Rattle.ec_recall.specs.declared.want.Action.TheVariants as action;
@@ -78,7 +78,7 @@ impl Core {
     fn serve_round<K: Keeper>(&mut self, keeper: &K) -> Result<bool, NoMemory>
         requires { HaveClerks (server (K.kept keeper.now) self.old) }
         ensures round { OnOk result (round (under (K.kept keeper.now) self.old) ≡ under (K.kept keeper.now) self.new) }
-        ensures grants { IfOk result (λ grants. grants ≡ list_any machine.is_grant (due (under (K.kept keeper.now) self.old))) }
+        ensures grants { IfOk result (λ grants. grants ≡ list_any machine.is_grant (due_actions (under (K.kept keeper.now) self.old))) }
     {
         read_tokens(&self.tokens);
         let actions = self.recalls.due(&self.tokens)?;

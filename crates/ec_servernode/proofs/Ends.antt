@@ -25,12 +25,12 @@ use Rattle.ec_servernode.specs.declared.state.Node.{Node}
 use Rattle.ec_servernode.specs.declared.state.Told.{Told}
 use Rattle.ec_servernode.specs.declared.fault.ServeFault.{ServeFault}
 use Rattle.ec_servernode.specs.declared.fault.ServeFault.TheVariants as fault
-use Rattle.ec_servernode.specs.Callers.{hello_in, accepted, refusal_in, posted, behind, answered}
+use Rattle.ec_servernode.specs.Callers.{hello_in, accepted, refusal_in, posted, behind, refusal_sent}
 use Rattle.ec_servernode.specs.Run.{Halts, caller_after, caller_by}
 use Rattle.ec_servernode.specs.Node.{CountsUp}
-use Rattle.ec_servernode.specs.Steps.{TookAs, EndedAs, Stops, Refuses, halt_in, spends}
+use Rattle.ec_servernode.specs.Steps.{TookAs, EndedAs, Halts as Stops, RefusesMessage, halt_in, spends}
 use Rattle.ec_servernode.specs.Told.{IsToldOf}
-use Rattle.ec_servernode.specs.TurnSteps.{More, TakeFails, Takes, EndFails, Ends, Gives, fault_of}
+use Rattle.ec_servernode.specs.TurnSteps.{More, TakeFails, Takes, EndFails, EndsTurn, Gives, fault_of}
 use Rattle.ec_servernode.proofs.Runs.{caller-push}
 
 -- Counts behind the server's step.
@@ -45,7 +45,7 @@ fault_up r (ended.Spent n) h old new is e c = record { faults = c.faults_later; 
 fault_up r ended.NoMemory h old new is e c = absurd (cc e)
 
 -- a halt, by the server's fault
-pub halts_by : {K : Type 0} (f : ServerFault) (h : Halt) (done : Serving) (old new : State) (keeper kept : K) → halt_in f ≡ Some h → Refuses f done old new keeper kept → Halts h done × (not (spends h) ≡ false → (new ≡ old) × (kept ≡ keeper))
+pub halts_by : {K : Type 0} (f : ServerFault) (h : Halt) (done : Serving) (old new : State) (keeper kept : K) → halt_in f ≡ Some h → RefusesMessage f done old new keeper kept → Halts h done × (not (spends h) ≡ false → (new ≡ old) × (kept ≡ keeper))
 halts_by {K} (ended.Spent n) h done old new keeper kept e r =
     let is : halt.Spent n ≡ h = cc e in
     subst (λ k. Halts k done × (not (spends k) ≡ false → (new ≡ old) × (kept ≡ keeper))) is (r.0, λ x. (r.1, r.2))
@@ -72,7 +72,7 @@ next_caller pass c bytes m served old new server keeper hello refusal t hello_is
     ∙ (ap (λ (y : Served). behind (accepted (refusal_in y.sent) (hello_in m)) (refusal_in y.sent) k) t.copy_is ∙ (ap (λ h. behind h (refusal_in served.sent) k) (sym hello_is) ∙ ap (λ r. behind hello r k) (sym refusal_is)))))
 
 -- there is no refusal to be sent
-pub as_answered : (k : Caller) → k.refusal ≡ None → k ≡ answered k
+pub as_answered : (k : Caller) → k.refusal ≡ None → k ≡ refusal_sent k
 as_answered k none = ap (λ (o : Option Refusal). record k { refusal = o }) none
 
 -- What was added.
@@ -87,7 +87,7 @@ grew_takes pass c bytes m served old new server keeper told none t is =
     ((x, (t.grew.list, (refl, tt)), refl, subst (λ (s : Served). IsToldOf told (posted s.sent)) (sym t.copy_is) is), t.grew.halt_is ∙ none)
 
 pub grew_ends : {K : Type 0} (pass c : ℕ) (served : Served) (old new : Node K) (server : Server) (keeper : K) (told : Told) → old.halt ≡ None
-    → EndedAs pass c served (record old { server = server; keeper = keeper }) new → IsToldOf told served.sent → Ends pass c old new (Ok told)
+    → EndedAs pass c served (record old { server = server; keeper = keeper }) new → IsToldOf told served.sent → EndsTurn pass c old new (Ok told)
 grew_ends pass c served old new server keeper told none t is =
     let x : Step = record { pass = pass; deed = Ended c t.copy } in
     ((x, (t.grew.list, (refl, tt)), refl, subst (λ (s : Served). IsToldOf told s.sent) (sym t.copy_is) is), t.grew.halt_is ∙ none)

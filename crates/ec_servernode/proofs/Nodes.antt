@@ -23,11 +23,11 @@ use Rattle.ec_servernode.specs.declared.step.Deed.{Deed}
 use Rattle.ec_servernode.specs.declared.step.Deed.TheVariants.{Took, Gave, Refused, Halted, Ended, HaltedEnd}
 use Rattle.ec_servernode.specs.declared.step.Step.{Step}
 use Rattle.ec_servernode.specs.declared.state.Node.{Node}
-use Rattle.ec_servernode.specs.Folded.{taken, ended}
+use Rattle.ec_servernode.specs.Folded.{message_taken, session_ended}
 use Rattle.ec_servernode.specs.Callers.{hello_in, accepted, refusal_in, posted, IsRefusal}
 use Rattle.ec_servernode.specs.Run.{hello_of, owner_now, sender, caller_by, clerk_by, is_for, owner, put_all, for_clerk, box_after, box_from, after, leads, record_of, records, records_of, halts_of, halted, Halts, IsDeed, IsStep, IsRun}
 use Rattle.ec_servernode.specs.Node.{queue_at, owner_at, Chain, Doubt, CountsUp, state_of, Since, Keeps}
-use Rattle.ec_servernode.specs.Steps.{Grew, TookAs, EndedAs, Stops, Refuses, halt_in, spends}
+use Rattle.ec_servernode.specs.Steps.{Grew, TookAs, EndedAs, Halts as Stops, RefusesMessage, halt_in, spends}
 use Rattle.ec_servernode.proofs.Runs.{run_push, leads-push, box-push, owner-push, halted-push, chain-push}
 use Rattle.ec_servernode.proofs.Counts.{then_up}
 use Rattle.ec_servernode.proofs.Ends.{fault_up, halts_by, boxes_same}
@@ -103,7 +103,7 @@ module _ {K : Type 0} (kept : K → Durable) (counts : K → Counts) (did breaks
     pub said_so : said bytes.value.items ≡ Ok m
     pub sound : is_sound m ≡ true
     pub from : c ≡ sender m (clerk_by pass old.trace.items)
-    pub does : Does (taken c m (state_of kept old)) (kept keeper) server served
+    pub does : Does (message_taken c m (state_of kept old)) (kept keeper) server served
     pub did_so : Did did served.rec old.keeper keeper
     pub counted : CountsUp None (counts old.keeper) (counts keeper)
     pub stands : StandsOn (kept keeper) server
@@ -133,14 +133,14 @@ module _ {K : Type 0} (kept : K → Durable) (counts : K → Counts) (did breaks
       })
       g.grew
     where
-      so : (s : State) → s ≡ state_of kept old → taken c g.shot.value s ≡ record { server = standing (kept keeper) server; sent = served.sent; rec = served.rec; spent = None }
-      so s is = ap (λ y. taken c y s) g.shot_is ∙ (ap (λ y. taken c m y) is ∙ t.does)
+      so : (s : State) → s ≡ state_of kept old → message_taken c g.shot.value s ≡ record { server = standing (kept keeper) server; sent = served.sent; rec = served.rec; spent = None }
+      so s is = ap (λ y. message_taken c y s) g.shot_is ∙ (ap (λ y. message_taken c m y) is ∙ t.does)
 
   -- the server ended the session of the clerk c
   pub record Ending (c : ℕ) (served : Served) (old : Node K) (server : Server) (keeper : K) : Type 0 where
     pub up : old.broken ≡ false
     pub none : old.halt ≡ None
-    pub does : Does (ended c (state_of kept old)) (kept keeper) server served
+    pub does : Does (session_ended c (state_of kept old)) (kept keeper) server served
     pub did_so : Did did served.rec old.keeper keeper
     pub counted : CountsUp None (counts old.keeper) (counts keeper)
     pub stands : StandsOn (kept keeper) server
@@ -166,8 +166,8 @@ module _ {K : Type 0} (kept : K → Durable) (counts : K → Counts) (did breaks
       })
       g.grew
     where
-      so : (s : State) → s ≡ state_of kept old → ended c s ≡ record { server = standing (kept keeper) server; sent = served.sent; rec = served.rec; spent = None }
-      so s is = ap (λ y. ended c y) is ∙ t.does
+      so : (s : State) → s ≡ state_of kept old → session_ended c s ≡ record { server = standing (kept keeper) server; sent = served.sent; rec = served.rec; spent = None }
+      so s is = ap (λ y. session_ended c y) is ∙ t.does
 
   -- This ended in a halt.
   pub record Halting (pass : ℕ) (deed : Deed) (h : Halt) (old : Node K) (server : Server) (keeper : K) : Type 0 where
@@ -228,18 +228,18 @@ module _ {K : Type 0} (kept : K → Durable) (counts : K → Counts) (did breaks
   in_doubt fault.NoMemory done old new h = ⊎_elim (λ (same : new ≡ old). inl same) (λ (t : SpendsNothing done × ((r : Record) × (done.rec ≡ Some r) × (did old r new ⊎ breaks old r new))). inr (t.1.0, t.1.2)) h
 
   pub halting : (pass c : ℕ) (bytes : Snapshot (Vec ℕ Global)) (m : Msg) (shot : Snapshot Msg) (f : ServerFault) (h : Halt) (old : Node K) (server : Server) (keeper : K) (r : Result Served ServerFault) → shot.value ≡ m → old.broken ≡ false → old.halt ≡ None → said bytes.value.items ≡ Ok m
-      → c ≡ sender m (clerk_by pass old.trace.items) → r ≡ Err f → halt_in f ≡ Some h → Refuses f (taken c m (state_of kept old)) (state_of kept old) (standing (kept keeper) server) old.keeper keeper
+      → c ≡ sender m (clerk_by pass old.trace.items) → r ≡ Err f → halt_in f ≡ Some h → RefusesMessage f (message_taken c m (state_of kept old)) (state_of kept old) (standing (kept keeper) server) old.keeper keeper
       → Counted (counts old.keeper) (counts keeper) (r ≡ Err fault.DiskFailed) (r ≡ Err fault.DiskStopped) → StandsOn (kept keeper) server
-      → Hurts SpendsNothing did breaks f (taken c m (state_of kept old)) old.keeper keeper → Halting pass (Halted c bytes shot h) h old server keeper
+      → Hurts SpendsNothing did breaks f (message_taken c m (state_of kept old)) old.keeper keeper → Halting pass (Halted c bytes shot h) h old server keeper
   halting pass c bytes m shot f h old server keeper r shot_is up none said_so from is e refuses counted stands hurts =
-      let by = halts_by f h (taken c m (state_of kept old)) (state_of kept old) (standing (kept keeper) server) old.keeper keeper e refuses in
+      let by = halts_by f h (message_taken c m (state_of kept old)) (state_of kept old) (standing (kept keeper) server) old.keeper keeper e refuses in
       record {
         up = up;
         none = none;
         is_deed = λ s0 boxes lead. (
           said_so ∙ ap Ok (sym shot_is),
           from ∙ ap (λ y. sender y (clerk_by pass old.trace.items)) (sym shot_is),
-          subst (λ y. Halts h (taken c y (leads s0 old.trace.items))) (sym shot_is) (subst (λ y. Halts h (taken c m y)) (sym lead) by.0),
+          subst (λ y. Halts h (message_taken c y (leads s0 old.trace.items))) (sym shot_is) (subst (λ y. Halts h (message_taken c m y)) (sym lead) by.0),
         );
         goes = λ s. refl;
         no_records = refl;
@@ -249,19 +249,19 @@ module _ {K : Type 0} (kept : K → Durable) (counts : K → Counts) (did breaks
         same = by.1;
         counted = fault_up r f h (counts old.keeper) (counts keeper) is e counted;
         stands = stands;
-        doubt = in_doubt f (taken c m (state_of kept old)) old.keeper keeper hurts;
+        doubt = in_doubt f (message_taken c m (state_of kept old)) old.keeper keeper hurts;
       }
 
   pub halting_end : (pass c : ℕ) (f : ServerFault) (h : Halt) (old : Node K) (server : Server) (keeper : K) (r : Result Served ServerFault) → old.broken ≡ false → old.halt ≡ None
-      → r ≡ Err f → halt_in f ≡ Some h → Refuses f (ended c (state_of kept old)) (state_of kept old) (standing (kept keeper) server) old.keeper keeper
+      → r ≡ Err f → halt_in f ≡ Some h → RefusesMessage f (session_ended c (state_of kept old)) (state_of kept old) (standing (kept keeper) server) old.keeper keeper
       → Counted (counts old.keeper) (counts keeper) (r ≡ Err fault.DiskFailed) (r ≡ Err fault.DiskStopped) → StandsOn (kept keeper) server
-      → Hurts SpendsNothing did breaks f (ended c (state_of kept old)) old.keeper keeper → Halting pass (HaltedEnd c h) h old server keeper
+      → Hurts SpendsNothing did breaks f (session_ended c (state_of kept old)) old.keeper keeper → Halting pass (HaltedEnd c h) h old server keeper
   halting_end pass c f h old server keeper r up none is e refuses counted stands hurts =
-      let by = halts_by f h (ended c (state_of kept old)) (state_of kept old) (standing (kept keeper) server) old.keeper keeper e refuses in
+      let by = halts_by f h (session_ended c (state_of kept old)) (state_of kept old) (standing (kept keeper) server) old.keeper keeper e refuses in
       record {
         up = up;
         none = none;
-        is_deed = λ s0 boxes lead. subst (λ y. Halts h (ended c y)) (sym lead) by.0;
+        is_deed = λ s0 boxes lead. subst (λ y. Halts h (session_ended c y)) (sym lead) by.0;
         goes = λ s. refl;
         no_records = refl;
         box_is = λ k q. refl;
@@ -270,7 +270,7 @@ module _ {K : Type 0} (kept : K → Durable) (counts : K → Counts) (did breaks
         same = by.1;
         counted = fault_up r f h (counts old.keeper) (counts keeper) is e counted;
         stands = stands;
-        doubt = in_doubt f (ended c (state_of kept old)) old.keeper keeper hurts;
+        doubt = in_doubt f (session_ended c (state_of kept old)) old.keeper keeper hurts;
       }
 
   -- memory was wanting in the server's step

@@ -16,7 +16,7 @@ use Rattle.ec_servernode.specs.declared.state.Node.{Node}
 use Rattle.ec_servernode.specs.declared.step.Deed.{Deed}
 use Rattle.ec_servernode.specs.declared.step.Deed.TheVariants.{Took, Gave, Refused, Halted, Ended, HaltedEnd}
 use Rattle.ec_servernode.specs.declared.step.Step.{Step}
-use Rattle.ec_servernode.specs.Folded.{taken, ended}
+use Rattle.ec_servernode.specs.Folded.{message_taken, session_ended as ended}
 use Rattle.ec_servernode.specs.Node.{state_of, queue_at}
 use Rattle.ec_servernode.specs.Run.{IsRun, IsDeed, leads, after, records, records_of, record_of}
 use Rattle.ec_servernode.specs.Safe.{StaysSafe}
@@ -27,8 +27,8 @@ record Safely (s : Server) (ss : List Step) : Type 0 where
   safe : IsSafe (leads s ss)
   stepped : steps (records ss) s.durable ≡ Ok (leads s ss).durable
 
-taken-is : (c : ℕ) (m : Msg) (s : Server) → taken c m s ≡ take c m s
-unfolding taken
+taken-is : (c : ℕ) (m : Msg) (s : Server) → message_taken c m s ≡ take c m s
+unfolding message_taken
 taken-is c m s = refl
 
 ended-is : (c : ℕ) (s : Server) → ended c s ≡ end c s
@@ -57,9 +57,9 @@ on-deed s boxes pass before (Took c bytes m served) deed h =
     let v = leads s before in
     let sound : T _ = subst T (sym deed.3) tt in
     let goes = take-goes c m.value v sound (record { sound = h.tokens; held = h.wants }) in
-    let is : take c m.value v ≡ taken c m.value v = sym (taken-is c m.value v) in (
+    let is : take c m.value v ≡ message_taken c m.value v = sym (taken-is c m.value v) in (
       subst (λ (t : Serving). IsSafe t.server) is (take-safe c m.value v sound h),
-      subst (λ (o : Option Record). steps (record_of o) v.durable ≡ Ok (taken c m.value v).server.durable) deed.2.1
+      subst (λ (o : Option Record). steps (record_of o) v.durable ≡ Ok (message_taken c m.value v).server.durable) deed.2.1
           (subst (λ (t : Serving). steps (record_of t.rec) v.durable ≡ Ok t.server.durable) is (stepped (take c m.value v).rec v.durable (take c m.value v).server.durable goes.1)),
     )
 

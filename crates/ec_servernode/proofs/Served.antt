@@ -4,7 +4,7 @@ use mathlib.Core.List.{IsPrefix}
 use Rattle.ec_base.specs.Limits.{clerk_count}
 use Rattle.ec_disk.specs.Disk.{Counts}
 use Rattle.ec_wire.specs.Codes.{said, msg_code}
-use Rattle.ec_wire.specs.CodeAnswers.{Answers}
+use Rattle.ec_wire.specs.CodeAnswers.{ReadsMessage}
 use Rattle.ec_wire.specs.declared.msg.Msg.{Msg}
 use Rattle.ec_wire.specs.declared.fault.WireFault.{WireFault}
 use Rattle.ec_wire.specs.declared.fault.WireFault.TheVariants as wire
@@ -34,7 +34,7 @@ use Rattle.ec_servernode.specs.declared.shared.Turned.TheVariants as turned
 use Rattle.ec_servernode.specs.Run.{number_of, is_for, owner, box_from, halted, leads, caller_from, caller_by}
 use Rattle.ec_servernode.specs.Node.{queue_at, owner_at, state_of, Since}
 use Rattle.ec_servernode.specs.Callers.{nobody}
-use Rattle.ec_servernode.specs.TurnSteps.{More, Takes, Ends, Gives, peer_of, EndsSession, Adds, HearFails, TakesMessage, Looked, Hears, HasNone, HasNext, NextFails, GivesNext, GaveBody, GaveNone, WasClear, ServeFails, Serves, RunsFrom, IsServerPass}
+use Rattle.ec_servernode.specs.TurnSteps.{More, Takes, EndsTurn, Gives, peer_of, EndsSession, Adds, HearFails, TakesMessage, Looked, Hears, HasNone, HasNext, NextFails, GivesNext, GaveBody, GaveNone, WasClear, ServeFails, Serves, RunsFrom, IsServerPass}
 use Rattle.ec_servernode.proofs.Lists.{of_others, none_more}
 use Rattle.ec_base.specs.Lists.{first_of}
 use Rattle.ec_lock.proofs.StepsLemmas.{of-append}
@@ -51,7 +51,7 @@ takes_more pass bytes v w (Err fault.Net) t = absurd t
 takes_more pass bytes v w (Err (fault.Peer p)) t = absurd t
 takes_more pass bytes v w (Err (fault.Long n)) t = absurd t
 
-pub ends_more : {K : Type 0} (pass clerk : ℕ) (v w : Node K) (r : Result Told ServeFault) → Ends pass clerk v w r → (more : List Step) × More pass v w more
+pub ends_more : {K : Type 0} (pass clerk : ℕ) (v w : Node K) (r : Result Told ServeFault) → EndsTurn pass clerk v w r → (more : List Step) × More pass v w more
 ends_more pass clerk v w (Ok told) t = (t.0.0 ∷ [], t.0.1)
 ends_more pass clerk v w (Err fault.DiskFailed) t = (t.0 ∷ [], t.1)
 ends_more pass clerk v w (Err fault.DiskStopped) t = (t.0 ∷ [], t.1)
@@ -122,7 +122,7 @@ module _ {K : Type 0} (pass : ℕ) (before after : List Step) (v w : Node K) (la
   takes bytes (Err (fault.Peer p)) t = absurd t
   takes bytes (Err (fault.Long n)) t = absurd t
 
-  pub ends : (clerk : ℕ) (r : Result Told ServeFault) → Ends pass clerk v w r → EndsSession pass clerk before after r
+  pub ends : (clerk : ℕ) (r : Result Told ServeFault) → EndsTurn pass clerk v w r → EndsSession pass clerk before after r
   ends clerk (Ok told) t = ((t.0.0, adds (t.0.0 ∷ []) t.0.1, t.0.2, t.0.3), halted_is None t.1)
   ends clerk (Err fault.DiskFailed) t = (t.0, adds (t.0 ∷ []) t.1, t.2)
   ends clerk (Err fault.DiskStopped) t = (t.0, adds (t.0 ∷ []) t.1, t.2)
@@ -181,12 +181,12 @@ pub no_more_of : {K : Type 0} (pass : ℕ) (v : Node K) → More pass v v []
 no_more_of pass v = (sym (append-nil v.trace.items), tt)
 
 -- a body that is no message
-pub refused : (pass : ℕ) (bytes : List ℕ) (why : WireFault) (old new : List Step) (r : Result Turned ServeFault) → Answers (Err why) (said bytes) → Looked pass old new (Err (peer_of why)) r → Hears pass bytes old new r
+pub refused : (pass : ℕ) (bytes : List ℕ) (why : WireFault) (old new : List Step) (r : Result Turned ServeFault) → ReadsMessage (Err why) (said bytes) → Looked pass old new (Err (peer_of why)) r → Hears pass bytes old new r
 refused pass bytes why old new r is h =
     ⊎_elim (λ (e : (r ≡ Err (peer_of why)) × (halted new ≡ None)). subst (Hears pass bytes old new) (sym e.0) (by why is h.0 e.1))
     (λ (e : (r ≡ Err fault.Down) × ((why : Halt) × (halted new ≡ Some why))). subst (Hears pass bytes old new) (sym e.0) (h.0, e.1)) h.1
   where
-    by : (w : WireFault) → Answers (Err w) (said bytes) → Adds pass old new [] → halted new ≡ None → HearFails pass bytes old new (peer_of w)
+    by : (w : WireFault) → ReadsMessage (Err w) (said bytes) → Adds pass old new [] → halted new ≡ None → HearFails pass bytes old new (peer_of w)
     by wire.NoMemory is a none = a
     by (wire.Short p) is a none = (a, is, none)
     by (wire.Kind b) is a none = (a, is, none)

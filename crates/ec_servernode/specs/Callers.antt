@@ -56,8 +56,8 @@ abbrev pub behind : Option ℕ → Option Refusal → Caller → Caller
 behind hello refusal k = refused refusal (greeted hello k)
 
 -- a refusal was sent, where there was one
-abbrev pub answered : Caller → Caller
-answered k = record k { refusal = None }
+abbrev pub refusal_sent : Caller → Caller
+refusal_sent k = record k { refusal = None }
 
 -- this is the refusal that is still to be sent
 abbrev pub IsRefusal : Option Refusal → Msg → Type 0

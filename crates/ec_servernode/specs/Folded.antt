@@ -5,8 +5,8 @@ use Rattle.ec_protocol.specs.Server as protocol
 use Rattle.ec_protocol.specs.Server.{Serving}
 use Rattle.ec_protocol.specs.declared.server.Server.{Server}
 
-unfoldable pub taken : ℕ → Msg → Server → Serving
-taken c m s = protocol.take c m s
+unfoldable pub message_taken : ℕ → Msg → Server → Serving
+message_taken c m s = protocol.take c m s
 
-unfoldable pub ended : ℕ → Server → Serving
-ended c s = protocol.end c s
+unfoldable pub session_ended : ℕ → Server → Serving
+session_ended c s = protocol.end c s

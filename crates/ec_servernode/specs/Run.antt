@@ -14,8 +14,8 @@ use Rattle.ec_servernode.specs.declared.step.Deed.{Deed}
 use Rattle.ec_servernode.specs.declared.step.Deed.TheVariants.{Took, Gave, Refused, Halted, Ended, HaltedEnd}
 use Rattle.ec_servernode.specs.declared.step.Step.{Step}
 use Rattle.ec_servernode.specs.declared.caller.Caller.{Caller}
-use Rattle.ec_servernode.specs.Callers.{hello_in, accepted, refusal_in, posted, nobody, behind, answered, IsRefusal}
-use Rattle.ec_servernode.specs.Folded.{taken, ended}
+use Rattle.ec_servernode.specs.Callers.{hello_in, accepted, refusal_in, posted, nobody, behind, refusal_sent, IsRefusal}
+use Rattle.ec_servernode.specs.Folded.{message_taken, session_ended}
 use Rattle.ec_link.specs.Happenings.{each}
 use Rattle.ec_base.specs.Lists.{first_of}
 
@@ -37,7 +37,7 @@ hello_of (HaltedEnd c h) = None
 abbrev pub caller_after : Caller → Deed → Caller
 caller_after k (Took c bytes m served) = behind (accepted (refusal_in served.value.sent) (hello_in m.value)) (refusal_in served.value.sent) k
 caller_after k (Gave c m) = k
-caller_after k (Refused m) = answered k
+caller_after k (Refused m) = refusal_sent k
 caller_after k (Halted c bytes m h) = k
 caller_after k (Ended c served) = k
 caller_after k (HaltedEnd c h) = k
@@ -118,11 +118,11 @@ box_from c q (s ∷ ss) = box_from c (box_after c q s.deed) ss
 -- The server.
 
 abbrev pub after : Server → Deed → Server
-after s (Took c bytes m served) = (taken c m.value s).server
+after s (Took c bytes m served) = (message_taken c m.value s).server
 after s (Gave c m) = s
 after s (Refused m) = s
 after s (Halted c bytes m h) = s
-after s (Ended c served) = (ended c s).server
+after s (Ended c served) = (session_ended c s).server
 after s (HaltedEnd c h) = s
 
 -- the server to which the steps lead
@@ -171,12 +171,12 @@ Halts (halt.Spent n) done = done.spent ≡ Some n
 -- A message is what its body says, sound, and comes from the link's clerk. A refusal goes first to the link whose Hello it answers. Else what is sent stands first in the outbox of the
 -- link's clerk, which belongs to this pass or to any.
 abbrev pub IsDeed : Server → (ℕ → List Msg) → ℕ → List Step → Deed → Type 0
-IsDeed s boxes pass before (Took c bytes m served) = (said bytes.value.items ≡ Ok m.value) × (c ≡ sender m.value (clerk_by pass before)) × Came (taken c m.value (leads s before)) served.value × (is_sound m.value ≡ true)
+IsDeed s boxes pass before (Took c bytes m served) = (said bytes.value.items ≡ Ok m.value) × (c ≡ sender m.value (clerk_by pass before)) × Came (message_taken c m.value (leads s before)) served.value × (is_sound m.value ≡ true)
 IsDeed s boxes pass before (Gave c m) = ((caller_by pass before).refusal ≡ None) × (c ≡ clerk_by pass before) × (is_for pass (owner c before) ≡ true) × (first_of (box_from c (boxes c) before) ≡ Some m.value)
 IsDeed s boxes pass before (Refused m) = IsRefusal (caller_by pass before).refusal m.value
-IsDeed s boxes pass before (Halted c bytes m h) = (said bytes.value.items ≡ Ok m.value) × (c ≡ sender m.value (clerk_by pass before)) × Halts h (taken c m.value (leads s before))
-IsDeed s boxes pass before (Ended c served) = Came (ended c (leads s before)) served.value
-IsDeed s boxes pass before (HaltedEnd c h) = Halts h (ended c (leads s before))
+IsDeed s boxes pass before (Halted c bytes m h) = (said bytes.value.items ≡ Ok m.value) × (c ≡ sender m.value (clerk_by pass before)) × Halts h (message_taken c m.value (leads s before))
+IsDeed s boxes pass before (Ended c served) = Came (session_ended c (leads s before)) served.value
+IsDeed s boxes pass before (HaltedEnd c h) = Halts h (session_ended c (leads s before))
 
 -- the step comes behind these, among which is no halt
 abbrev pub IsStep : Server → (ℕ → List Msg) → List Step → Step → Type 0

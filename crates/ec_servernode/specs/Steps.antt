@@ -19,18 +19,18 @@ use Rattle.ec_servernode.specs.declared.shared.Turned.{Turned}
 use Rattle.ec_servernode.specs.declared.shared.Turned.TheVariants as turned
 use Rattle.ec_servernode.specs.declared.state.Taking.{Taking}
 use Rattle.ec_servernode.specs.declared.state.Told.{Told}
-use Rattle.ec_servernode.specs.Callers.{hello_in, accepted, refusal_in, behind, answered}
+use Rattle.ec_servernode.specs.Callers.{hello_in, accepted, refusal_in, behind, refusal_sent}
 use Rattle.ec_servernode.specs.Callers.{posted as posted_of}
 use Rattle.ec_servernode.specs.declared.state.Node.{Node}
 use Rattle.ec_servernode.specs.Run.{owner_now, put_all, for_clerk}
 use Rattle.ec_servernode.specs.Node.{queue_at, owner_at}
 
 -- a spent counter is the machine's, and leaves all as it was
-abbrev pub Refuses : {K : Type 0} → ServerFault → Serving → Server → Server → K → K → Type 0
-Refuses (Spent n) done old new keeper kept = (done.spent ≡ Some n) × (new ≡ old) × (kept ≡ keeper)
-Refuses DiskFailed done old new keeper kept = Unit {0}
-Refuses DiskStopped done old new keeper kept = Unit {0}
-Refuses NoMemory done old new keeper kept = Unit {0}
+abbrev pub RefusesMessage : {K : Type 0} → ServerFault → Serving → Server → Server → K → K → Type 0
+RefusesMessage (Spent n) done old new keeper kept = (done.spent ≡ Some n) × (new ≡ old) × (kept ≡ keeper)
+RefusesMessage DiskFailed done old new keeper kept = Unit {0}
+RefusesMessage DiskStopped done old new keeper kept = Unit {0}
+RefusesMessage NoMemory done old new keeper kept = Unit {0}
 
 abbrev pub halt_in : ServerFault → Option Halt
 halt_in DiskFailed = Some halt.DiskFailed
@@ -69,7 +69,7 @@ pub record EndedAs {K : Type 0} (pass c : ℕ) (served : Served) (old new : Node
   pub grew : Grew pass (Ended c copy) None served.sent old new
 
 -- the server halts
-pub record Stops {K : Type 0} (pass : ℕ) (deed : Deed) (h : Halt) (old new : Node K) : Type 0 where
+pub record Halts {K : Type 0} (pass : ℕ) (deed : Deed) (h : Halt) (old new : Node K) : Type 0 where
   pub list : new.trace.items ≡ old.trace.items ++ (record { pass = pass; deed = deed }) ∷ []
   pub others : new ≡ record old { trace = new.trace; steps = old.steps + 1; halt = Some h; broken = not (spends h) }
 
@@ -80,7 +80,7 @@ taken_by (Ok t) k = behind t.hello t.refusal k
 taken_by (Err f) k = k
 
 abbrev pub told_by : Result Turned ServeFault → Caller → Caller
-told_by (Ok turned.Gave) k = answered k
+told_by (Ok turned.Gave) k = refusal_sent k
 told_by (Ok (turned.Took told)) k = k
 told_by (Ok turned.Idle) k = k
 told_by (Ok turned.Replaced) k = k

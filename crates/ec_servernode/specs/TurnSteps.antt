@@ -53,10 +53,10 @@ IsTaking bytes (Took c b m served) = b.value.items ≡ bytes
 IsTaking bytes _ = ⊥
 
 -- told are the clerks to which the taking sent something, or the end of a session
-abbrev pub Tells : Told → Deed → Type 0
-Tells told (Took c b m served) = IsToldOf told (posted served.value.sent)
-Tells told (Ended c served) = IsToldOf told served.value.sent
-Tells told _ = ⊥
+abbrev pub TellsClerks : Told → Deed → Type 0
+TellsClerks told (Took c b m served) = IsToldOf told (posted served.value.sent)
+TellsClerks told (Ended c served) = IsToldOf told served.value.sent
+TellsClerks told _ = ⊥
 
 -- this message was sent to the link: a refusal, or the first of its clerk's outbox
 abbrev pub IsGiving : Caller → Msg → Deed → Type 0
@@ -96,7 +96,7 @@ TakeFails pass bytes old new _ = ⊥
 
 -- the message of this body was taken
 abbrev pub Takes : {K : Type 0} → ℕ → List ℕ → Node K → Node K → Result Told ServeFault → Type 0
-Takes pass bytes old new (Ok told) = ((x : Step) × More pass old new (x ∷ []) × IsTaking bytes x.deed × Tells told x.deed) × (new.halt ≡ None)
+Takes pass bytes old new (Ok told) = ((x : Step) × More pass old new (x ∷ []) × IsTaking bytes x.deed × TellsClerks told x.deed) × (new.halt ≡ None)
 Takes pass bytes old new (Err f) = TakeFails pass bytes old new f
 
 -- the same of the end of a session
@@ -108,9 +108,9 @@ EndFails pass clerk old new fault.Down = More pass old new [] × ((h : Halt) × 
 EndFails pass clerk old new fault.NoMemory = More pass old new []
 EndFails pass clerk old new _ = ⊥
 
-abbrev pub Ends : {K : Type 0} → ℕ → ℕ → Node K → Node K → Result Told ServeFault → Type 0
-Ends pass clerk old new (Ok told) = ((x : Step) × More pass old new (x ∷ []) × IsEnding clerk x.deed × Tells told x.deed) × (new.halt ≡ None)
-Ends pass clerk old new (Err f) = EndFails pass clerk old new f
+abbrev pub EndsTurn : {K : Type 0} → ℕ → ℕ → Node K → Node K → Result Told ServeFault → Type 0
+EndsTurn pass clerk old new (Ok told) = ((x : Step) × More pass old new (x ∷ []) × IsEnding clerk x.deed × TellsClerks told x.deed) × (new.halt ≡ None)
+EndsTurn pass clerk old new (Err f) = EndFails pass clerk old new f
 
 -- a link failed by a send, so there was something for it
 abbrev pub GiveFails : {K : Type 0} → ℕ → Caller → Node K → Node K → ℕ → ℕ → ServeFault → Type 0
@@ -157,11 +157,11 @@ HearFails pass bytes old new _ = ⊥
 
 -- the message of this body was taken
 abbrev pub TakesMessage : ℕ → List ℕ → List Step → List Step → Result Told ServeFault → Type 0
-TakesMessage pass bytes old new (Ok told) = ((x : Step) × Adds pass old new (x ∷ []) × IsTaking bytes x.deed × Tells told x.deed) × (halted new ≡ None)
+TakesMessage pass bytes old new (Ok told) = ((x : Step) × Adds pass old new (x ∷ []) × IsTaking bytes x.deed × TellsClerks told x.deed) × (halted new ≡ None)
 TakesMessage pass bytes old new (Err f) = HearFails pass bytes old new f
 
 abbrev pub Hears : ℕ → List ℕ → List Step → List Step → Result Turned ServeFault → Type 0
-Hears pass bytes old new (Ok (turned.Took told)) = ((x : Step) × Adds pass old new (x ∷ []) × IsTaking bytes x.deed × Tells told x.deed) × (halted new ≡ None)
+Hears pass bytes old new (Ok (turned.Took told)) = ((x : Step) × Adds pass old new (x ∷ []) × IsTaking bytes x.deed × TellsClerks told x.deed) × (halted new ≡ None)
 Hears pass bytes old new (Ok _) = ⊥
 Hears pass bytes old new (Err f) = HearFails pass bytes old new f
 
@@ -179,7 +179,7 @@ EndSessionFails pass clerk old new fault.NoMemory = Adds pass old new []
 EndSessionFails pass clerk old new _ = ⊥
 
 abbrev pub EndsSession : ℕ → ℕ → List Step → List Step → Result Told ServeFault → Type 0
-EndsSession pass clerk old new (Ok told) = ((x : Step) × Adds pass old new (x ∷ []) × IsEnding clerk x.deed × Tells told x.deed) × (halted new ≡ None)
+EndsSession pass clerk old new (Ok told) = ((x : Step) × Adds pass old new (x ∷ []) × IsEnding clerk x.deed × TellsClerks told x.deed) × (halted new ≡ None)
 EndsSession pass clerk old new (Err f) = EndSessionFails pass clerk old new f
 
 -- Nothing is there for this pass: no refusal, and its clerk's outbox is empty or, where it never greeted, another pass's. Where it greeted, the outbox isn't another pass's.
@@ -236,7 +236,7 @@ module _ {L : Type 0} (faults closes : L → ℕ) (given : L → Option (List He
 
   -- What the answer says of the steps added and of the link: a message taken is what the body says that the link gave, and a message given is the one that it got.
   abbrev pub Serves : (L → Bool) → (ℕ → List Msg) → ℕ → Caller → List Step → List Step → L → L → Result Turned ServeFault → Type 0
-  Serves clear boxes pass caller old new before after (Ok (turned.Took told)) = ((x : Step) × (bytes : List ℕ) × Adds pass old new (x ∷ []) × IsTaking bytes x.deed × Tells told x.deed × GaveBody before after bytes) × (halted new ≡ None)
+  Serves clear boxes pass caller old new before after (Ok (turned.Took told)) = ((x : Step) × (bytes : List ℕ) × Adds pass old new (x ∷ []) × IsTaking bytes x.deed × TellsClerks told x.deed × GaveBody before after bytes) × (halted new ≡ None)
   Serves clear boxes pass caller old new before after (Ok turned.Gave) = ((x : Step) × (msg : Msg) × Adds pass old new (x ∷ []) × IsGiving caller msg x.deed × (got_by after ≡ added (got_by before) (msg_code.spell msg ∷ []))) × GaveNone before after × WasClear clear before after × (halted new ≡ None)
   Serves clear boxes pass caller old new before after (Ok turned.Idle) = Adds pass old new [] × HasNone boxes pass caller new × GaveNone before after × WasClear clear before after × (got_by after ≡ got_by before) × (halted new ≡ None)
   Serves clear boxes pass caller old new before after (Ok turned.Replaced) = Adds pass old new [] × IsReplaced pass caller new × GaveNone before after × WasClear clear before after × (got_by after ≡ got_by before) × (halted new ≡ None)

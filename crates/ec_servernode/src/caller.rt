@@ -1,7 +1,7 @@
 // Who is at the other end of a link.
 ghost use Rattle.std.specs.Prelude.{◌≡◌, ◌<◌, None};
 ghost use Rattle.ec_base.specs.Limits.{clerk_count};
-ghost use Rattle.ec_servernode.specs.Callers.{nobody, behind, greeted, refused, answered, hello_in, accepted, refusal_of, refusal_in, posted};
+ghost use Rattle.ec_servernode.specs.Callers.{nobody, behind, greeted, refused, refusal_sent as answered, hello_in, accepted, refusal_of, refusal_in, posted};
 
 use crate::passes::first_clerk;
 use ec_base::{Age, ClerkId};

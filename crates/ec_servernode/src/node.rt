@@ -14,9 +14,9 @@ ghost use Rattle.ec_servernode.specs.declared.fault.ServeFault.TheVariants as fa
 ghost use Rattle.ec_servernode.specs.Callers.{accepted, hello_in, posted, refusal_in};
 ghost use Rattle.ec_servernode.specs.Node.{Since, Keeps, owner_at};
 ghost use Rattle.ec_servernode.specs.Run.{sender, clerk_by, caller_by, is_for};
-ghost use Rattle.ec_servernode.specs.Steps.{Grew, TookAs, EndedAs, Stops, halt_in, spends, told_in, taken_by, told_by};
+ghost use Rattle.ec_servernode.specs.Steps.{Grew, TookAs, EndedAs, Halts, halt_in, spends, told_in, taken_by, told_by};
 ghost use Rattle.ec_servernode.specs.Told.{IsToldOf};
-ghost use Rattle.ec_servernode.specs.TurnSteps.{Takes, Ends, Gives, fault_of};
+ghost use Rattle.ec_servernode.specs.TurnSteps.{Takes, EndsTurn, Gives, fault_of};
 
 use crate::caller::{Caller, Refusal, accepted, hello_in, posted, refusal_in};
 use crate::fault::{ServeFault, halted};
@@ -140,7 +140,7 @@ impl<K: Keeper + Drop> Node<K> {
     fn stop(&mut self, pass: u64, deed: Deed, halt: Halt) -> ServeFault
         requires { self.old.steps < last_counter }
         ensures result { result ≡ fault_of halt }
-        ensures stops { Stops pass deed halt self.old self.new }
+        ensures stops { Halts pass deed halt self.old self.new }
     {
         self.add(Step { pass, deed });
         self.halt = Some(halt);
@@ -184,7 +184,7 @@ impl<K: Keeper + Drop> Node<K> {
     pub fn end(&mut self, pass: u64, clerk: ClerkId) -> Result<Told, ServeFault>
         requires { (first : Value K) × Since K.kept K.counts K.did K.broke first self.old }
         ensures keeps { Keeps K.kept K.counts K.did K.broke self.old self.new }
-        ensures ends { Ends pass clerk self.old self.new result }
+        ensures ends { EndsTurn pass clerk self.old self.new result }
         ensures caller { caller_by pass self.new.trace.items ≡ caller_by pass self.old.trace.items }
     {
         self.check()?;

@@ -5,8 +5,8 @@ ghost use Rattle.ec_wire.specs.Messages.{is_sound};
 ghost use Rattle.ec_server.specs.Servers.{standing, Does, StandsOn};
 ghost use Rattle.ec_server.specs.Keepers.{Did, Hurts, SpendsNothing};
 ghost use Rattle.ec_server.specs.declared.fault.ServerFault.TheVariants as fault;
-ghost use Rattle.ec_servernode.specs.Folded.{taken, ended};
-ghost use Rattle.ec_servernode.specs.Steps.{Refuses};
+ghost use Rattle.ec_servernode.specs.Folded.{message_taken as taken, session_ended as ended};
+ghost use Rattle.ec_servernode.specs.Steps.{RefusesMessage};
 
 use ec_base::ClerkId;
 use ec_protocol::Served;
@@ -14,7 +14,7 @@ use ec_server::{Keeper, Server, ServerFault};
 use ec_wire::Msg;
 
 /// Takes a sound message of a clerk.
-#[tactic(auto, unfolding(crate::specs::Folded::taken))]
+#[tactic(auto, unfolding(crate::specs::Folded::message_taken))]
 pub fn take<K: Keeper>(
     server: &mut Server,
     keeper: &mut K,
@@ -25,7 +25,7 @@ pub fn take<K: Keeper>(
     requires stands { StandsOn (K.kept keeper.old) server.old }
     ensures ok { IfOk result (λ served. Does (taken from msg.now (standing (K.kept keeper.old) server.old)) (K.kept keeper.new) server.new served) }
     ensures did { IfOk result (λ served. Did K.did served.rec keeper.old keeper.new) }
-    ensures err { IfErr result (λ f. Refuses f (taken from msg.now (standing (K.kept keeper.old) server.old)) (standing (K.kept keeper.old) server.old) (standing (K.kept keeper.new) server.new) keeper.old keeper.new) }
+    ensures err { IfErr result (λ f. RefusesMessage f (taken from msg.now (standing (K.kept keeper.old) server.old)) (standing (K.kept keeper.old) server.old) (standing (K.kept keeper.new) server.new) keeper.old keeper.new) }
     ensures hurts { IfErr result (λ f. Hurts SpendsNothing K.did K.broke f (taken from msg.now (standing (K.kept keeper.old) server.old)) keeper.old keeper.new) }
     ensures counts { Counted (K.counts keeper.old) (K.counts keeper.new) (result ≡ Err fault.DiskFailed) (result ≡ Err fault.DiskStopped) }
     ensures stands { StandsOn (K.kept keeper.new) server.new }
@@ -34,7 +34,7 @@ pub fn take<K: Keeper>(
 }
 
 /// Ends the open session of a clerk.
-#[tactic(auto, unfolding(crate::specs::Folded::ended))]
+#[tactic(auto, unfolding(crate::specs::Folded::session_ended))]
 pub fn end<K: Keeper>(
     server: &mut Server,
     keeper: &mut K,
@@ -43,7 +43,7 @@ pub fn end<K: Keeper>(
     requires { StandsOn (K.kept keeper.old) server.old }
     ensures ok { IfOk result (λ served. Does (ended clerk (standing (K.kept keeper.old) server.old)) (K.kept keeper.new) server.new served) }
     ensures did { IfOk result (λ served. Did K.did served.rec keeper.old keeper.new) }
-    ensures err { IfErr result (λ f. Refuses f (ended clerk (standing (K.kept keeper.old) server.old)) (standing (K.kept keeper.old) server.old) (standing (K.kept keeper.new) server.new) keeper.old keeper.new) }
+    ensures err { IfErr result (λ f. RefusesMessage f (ended clerk (standing (K.kept keeper.old) server.old)) (standing (K.kept keeper.old) server.old) (standing (K.kept keeper.new) server.new) keeper.old keeper.new) }
     ensures hurts { IfErr result (λ f. Hurts SpendsNothing K.did K.broke f (ended clerk (standing (K.kept keeper.old) server.old)) keeper.old keeper.new) }
     ensures counts { Counted (K.counts keeper.old) (K.counts keeper.new) (result ≡ Err fault.DiskFailed) (result ≡ Err fault.DiskStopped) }
     ensures stands { StandsOn (K.kept keeper.new) server.new }

@@ -11,7 +11,7 @@ use Rattle.ec_slots.specs.Contents.{content}
 use Rattle.ec_slots.specs.SlotLaws.{content-header}
 use Rattle.ec_slots.specs.declared.slot.Slot.{Slot}
 use Rattle.ec_slots.specs.declared.slot.Slot.TheVariants as slot
-use Rattle.ec_slots.specs.Slots.{place_of, other, number_in, gate_in, open_gate, Holds, IsReady, AreReady, HoldsEither}
+use Rattle.ec_slots.specs.Slots.{place_of, other, number_in, gate_in, open_gate, HoldsGeneration, SlotIsReady, AreReady, HoldsEither}
 
 back : (s : Slot) → other (other s) ≡ s
 back slot.First = refl
@@ -49,7 +49,7 @@ module _ (spare : Slot) (present : ℕ) where
   away W within i from to w = apart q i from to (subst (λ (s : Slot). InRange (place_of s) 9 i) (sym (back spare)) (within i w))
 
   -- the present slot stands behind such writes
-  present_holds : (W : ℕ → Type 0) (x c : List ℕ) (is_open : Bool) → IsReady x spare is_open present → Loose W x c → Within W → (gate_in c spare ≡ open_gate → number_in c spare ≤ present) → Holds c q present
+  present_holds : (W : ℕ → Type 0) (x c : List ℕ) (is_open : Bool) → SlotIsReady x spare is_open present → Loose W x c → Within W → (gate_in c spare ≡ open_gate → number_in c spare ≤ present) → HoldsGeneration c q present
   present_holds W x c is_open ready loose within less = record {
     long = omega (arith, ready.long, loose.no_shorter);
     is_open = gate_stays q W x c ready.long loose (λ w. away W within (place_of q) (omega arith) (omega arith) w) ∙ ready.present_open;
@@ -57,7 +57,7 @@ module _ (spare : Slot) (present : ℕ) where
     other_less = λ is. subst (λ (s : Slot). number_in c s ≤ present) (sym (back spare)) (less (subst (λ (s : Slot). gate_in c s ≡ open_gate) (back spare) is));
   }
 
-  still_ready : (W : ℕ → Type 0) (x c : List ℕ) (is_open : Bool) → IsReady x spare is_open present → Loose W x c → Within W → (gate_in c spare ≡ open_gate → ⊥) → IsReady c spare false present
+  still_ready : (W : ℕ → Type 0) (x c : List ℕ) (is_open : Bool) → SlotIsReady x spare is_open present → Loose W x c → Within W → (gate_in c spare ≡ open_gate → ⊥) → SlotIsReady c spare false present
   still_ready W x c is_open ready loose within shut =
       let holds = present_holds W x c is_open ready loose within (λ is. absurd (shut is)) in
       record { long = holds.long; present_open = holds.is_open; present_is = holds.number_is; spare_less = λ is. absurd (grind (arith, is)); spare_shut = λ is. shut }
@@ -67,7 +67,7 @@ module _ (spare : Slot) (present : ℕ) where
     gate_only : Within (InRange p 1)
     gate_only i r = (r.0, omega (arith, r.1))
 
-    shutting : (c : List ℕ) → After old (InRange p 1) c → Holds c q present
+    shutting : (c : List ℕ) → After old (InRange p 1) c → HoldsGeneration c q present
     shutting c after =
         present_holds (InRange p 1) after.0 c true (ready after.0 after.1) after.2 gate_only
         (λ is. omega (arith, number_stays spare (InRange p 1) after.0 c (ready after.0 after.1).long after.2 (λ i from to r. omega (arith, from, r.1)), (ready after.0 after.1).spare_less refl))
@@ -78,7 +78,7 @@ module _ (spare : Slot) (present : ℕ) where
     pub is_shut : (b : ℕ) → (b ≡ open_gate → ⊥) → mid.gives ≡ written p (b ∷ []) old.gives → mid.may_leave mid.gives → IsSynced mid → AreReady mid spare false present
     is_shut b shut is given synced c left =
         let after = ran.crash mid.gives given in
-        subst (λ (image : List ℕ). IsReady image spare false present) (sym (synced c left))
+        subst (λ (image : List ℕ). SlotIsReady image spare false present) (sym (synced c left))
         (still_ready (InRange p 1) after.0 mid.gives true (ready after.0 after.1) after.2 gate_only
         (λ open_now. shut (sym (byte-written p b old.gives) ∙ ap (λ (image : List ℕ). byte image p) (sym is) ∙ open_now)))
 
@@ -91,7 +91,7 @@ module _ (spare : Slot) (present : ℕ) where
     stays_shut c after is =
         (ready after.0 after.1).spare_shut refl (sym (gate_stays spare (InRange (p + 1) 8) after.0 c (ready after.0 after.1).long after.2 (λ r. omega (arith, r.0))) ∙ is)
 
-    numbering : (c : List ℕ) → After old (InRange (p + 1) 8) c → Holds c q present
+    numbering : (c : List ℕ) → After old (InRange (p + 1) 8) c → HoldsGeneration c q present
     numbering c after = present_holds (InRange (p + 1) 8) after.0 c false (ready after.0 after.1) after.2 behind_gate (λ is. absurd (stays_shut c after is))
 
     pub numbering_leaves : LeavesOnly old mid (HoldsEither spare present next)
@@ -101,7 +101,7 @@ module _ (spare : Slot) (present : ℕ) where
       numbered : number_in mid.gives spare ≡ next
       numbered = ap (λ (image : List ℕ). from_be_bytes w64 (part image (p + 1) 8)) is ∙ ap (λ (l : List ℕ). from_be_bytes w64 l) (part-written (p + 1) (to_be_bytes w64 next) old.gives) ∙ from_be_bytes-to_be_bytes_8 next short
 
-      ready_mid : IsReady mid.gives spare false present
+      ready_mid : SlotIsReady mid.gives spare false present
       ready_mid =
           let after = ran.crash mid.gives given in
           still_ready (InRange (p + 1) 8) after.0 mid.gives false (ready after.0 after.1) after.2 behind_gate (stays_shut mid.gives after)
@@ -120,7 +120,7 @@ module _ (spare : Slot) (present : ℕ) where
         present_number : (c : List ℕ) → After mid (InRange p 1) c → number_in c q ≡ present
         present_number c after = number_stays q (InRange p 1) mid.gives c ready_mid.long (loose c after) (λ i from to w. away (InRange p 1) gate_alone i (omega (arith, from)) to w) ∙ ready_mid.present_is
 
-        next_holds : (c : List ℕ) → After mid (InRange p 1) c → gate_in c spare ≡ open_gate → Holds c spare next
+        next_holds : (c : List ℕ) → After mid (InRange p 1) c → gate_in c spare ≡ open_gate → HoldsGeneration c spare next
         next_holds c after is_open = record {
           long = omega (arith, ready_mid.long, (loose c after).no_shorter);
           is_open = is_open;
@@ -141,7 +141,7 @@ module _ (spare : Slot) (present : ℕ) where
         is_raised wrote new_given new_synced c left =
             let after = opens.crash new.gives new_given in
             let holds = next_holds new.gives after (ap (λ (image : List ℕ). byte image p) wrote ∙ byte-written p open_gate mid.gives) in
-            subst (λ (image : List ℕ). IsReady image q true next) (sym (new_synced c left))
+            subst (λ (image : List ℕ). SlotIsReady image q true next) (sym (new_synced c left))
             record {
               long = holds.long;
               present_open = subst (λ (s : Slot). gate_in new.gives s ≡ open_gate) (sym (back spare)) holds.is_open;

@@ -9,7 +9,7 @@ use Rattle.ec_disk.specs.Images.{length-written, byte-written_out}
 use Rattle.ec_slots.specs.Contents.{content, length-content, byte-content}
 use Rattle.ec_slots.specs.declared.slot.Slot.{Slot}
 use Rattle.ec_slots.specs.declared.slot.Slot.TheVariants as slot
-use Rattle.ec_slots.specs.Slots.{gate_in, number_in, shown_in, open_gate, generation, Holds}
+use Rattle.ec_slots.specs.Slots.{gate_in, number_in, shown_in, open_gate, generation, HoldsGeneration}
 
 -- a write to the header
 pub content-header : (at : ℕ) (piece x : List ℕ) → at + length piece ≤ 4096 → 4096 ≤ length x → content (written at piece x) ≡ content x
@@ -37,7 +37,7 @@ second_greater : (a b n : ℕ) → a ≤ n → b ≡ n → max a b ≡ n
 second_greater a b n le is = grind (arith, nat_tests, is, le)
 
 -- what a slot holds is the image's generation
-pub generation_is : (image : List ℕ) (s : Slot) (n : ℕ) → Holds image s n → generation image ≡ n
+pub generation_is : (image : List ℕ) (s : Slot) (n : ℕ) → HoldsGeneration image s n → generation image ≡ n
 generation_is image slot.First n holds =
     first_greater (shown_in image slot.First) (shown_in image slot.Second) n (shown_open image slot.First holds.is_open ∙ holds.number_is) (shown_less image slot.Second n holds.other_less)
 generation_is image slot.Second n holds =

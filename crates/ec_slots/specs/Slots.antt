@@ -40,14 +40,14 @@ abbrev pub generation : List ℕ → ℕ
 generation image = max (shown_in image slot.First) (shown_in image slot.Second)
 
 -- This slot holds an image's generation, and no open gate has a greater number.
-pub record Holds (image : List ℕ) (s : Slot) (number : ℕ) : Type 0 where
+pub record HoldsGeneration (image : List ℕ) (s : Slot) (number : ℕ) : Type 0 where
   pub long : header_bytes ≤ length image
   pub is_open : gate_in image s ≡ open_gate
   pub number_is : number_in image s ≡ number
   pub other_less : gate_in image (other s) ≡ open_gate → number_in image (other s) ≤ number
 
 -- An image whose next generation goes to this slot: the other one holds the present generation, and this one's gate is shut, or its number is no greater.
-pub record IsReady (image : List ℕ) (spare : Slot) (is_open : Bool) (present : ℕ) : Type 0 where
+pub record SlotIsReady (image : List ℕ) (spare : Slot) (is_open : Bool) (present : ℕ) : Type 0 where
   pub long : header_bytes ≤ length image
   pub present_open : gate_in image (other spare) ≡ open_gate
   pub present_is : number_in image (other spare) ≡ present
@@ -56,8 +56,8 @@ pub record IsReady (image : List ℕ) (spare : Slot) (is_open : Bool) (present :
 
 -- each image that a crash may leave
 abbrev pub AreReady : View → Slot → Bool → ℕ → Type 0
-AreReady now spare is_open present = (image : List ℕ) → now.may_leave image → IsReady image spare is_open present
+AreReady now spare is_open present = (image : List ℕ) → now.may_leave image → SlotIsReady image spare is_open present
 
 -- the present generation, or the next one
 abbrev pub HoldsEither : Slot → ℕ → ℕ → List ℕ → Type 0
-HoldsEither spare present next image = Holds image (other spare) present ⊎ Holds image spare next
+HoldsEither spare present next image = HoldsGeneration image (other spare) present ⊎ HoldsGeneration image spare next

@@ -45,7 +45,7 @@ use Rattle.ec_stands.specs.Stands.{slot_code, StepsTo, StandsFor}
 use Rattle.ec_stands.specs.Checkpoints.{IsCheckpoint}
 use Rattle.ec_stands.specs.Laws.{lies_stands, lies_stands_in, steps_more}
 use Rattle.ec_store.specs.Places.{ArePlaces, AreSpare, IsPlaced, placed, pieces, touched}
-use Rattle.ec_store.specs.Store.{Holds, HoldsIn, StandsForEither}
+use Rattle.ec_store.specs.Store.{StoreHolds, HoldsIn, StandsForEither}
 use Rattle.ec_store.proofs.Members.{free_member, free_distinct, left_kept, keeps_left}
 use Rattle.ec_store.proofs.Replaying.{untouched_parts}
 use Rattle.ec_store.proofs.Images.{step_images, step_most, image_at}
@@ -63,11 +63,11 @@ leaves_map P Q old new f leaves = record {
 pub leaves_none : (P : List ℕ → Type 0) (now : View) → ((c : List ℕ) → now.left_since now.moment c → now.may_leave c) → ((c : List ℕ) → now.may_leave c → P c) → LeavesOnly now now P
 leaves_none P now only all = record { later = omega arith; each = λ c left. all c (only c left); before = λ t c le left. inl left }
 
-pub held_stands : (now : View) (selected : Selected) (named : List ℕ) (kept : List (ℕ × ℕ)) (d : Durable) → Holds now selected named kept d → (c : List ℕ) → now.may_leave c → StandsFor c d
+pub held_stands : (now : View) (selected : Selected) (named : List ℕ) (kept : List (ℕ × ℕ)) (d : Durable) → StoreHolds now selected named kept d → (c : List ℕ) → now.may_leave c → StandsFor c d
 held_stands now selected named kept d h c left = lies_stands c h.layout h.base d h.places (h.on.laid c left) h.checkpoint h.steps
 
 -- an image with the layout of such a disk
-pub held_lies : (now : View) (selected : Selected) (named : List ℕ) (kept : List (ℕ × ℕ)) (d : Durable) → Holds now selected named kept d → (image : List ℕ) → ((l : Layout) → IsOn now selected l → Lies image l) → StandsFor image d
+pub held_lies : (now : View) (selected : Selected) (named : List ℕ) (kept : List (ℕ × ℕ)) (d : Durable) → StoreHolds now selected named kept d → (image : List ℕ) → ((l : Layout) → IsOn now selected l → Lies image l) → StandsFor image d
 held_lies now selected named kept d h image lies = lies_stands image h.layout h.base d h.places (lies h.layout h.on) h.checkpoint h.steps
 
 with_more : (l : Layout) (body : List ℕ) (base : Durable) (places : List (ℕ × ℕ)) → IsCheckpoint l base places → IsCheckpoint (with_body body l) base places
@@ -78,7 +78,7 @@ module _ (r : Record) (body : List ℕ) (fits : record_code.fits r ≡ true) (sp
   body_is : said body ≡ Ok r
   body_is = ap (λ (x : List ℕ). said x) spelled ∙ said_again r fits
 
-  module _ (old new : View) (selected : Selected) (named : List ℕ) (kept : List (ℕ × ℕ)) (h : Holds old selected named kept d) where
+  module _ (old new : View) (selected : Selected) (named : List ℕ) (kept : List (ℕ × ℕ)) (h : StoreHolds old selected named kept d) where
     pub append_leaves : ((l : Layout) → IsOn old selected l → LeavesOnly old new (LeavesBody l body)) → LeavesOnly old new (StandsForEither r d)
     append_leaves leaves = leaves_map (LeavesBody h.layout body) (StandsForEither r d) old new either (leaves h.layout h.on)
       where
@@ -88,7 +88,7 @@ module _ (r : Record) (body : List ℕ) (fits : record_code.fits r ≡ true) (sp
             inr (e, stepped, lies_stands c (with_body body h.layout) h.base e h.places lies (with_more h.layout body h.base h.places h.checkpoint) (steps_more h.layout.bodies body r h.base d e h.steps body_is stepped))
 
     pub append_holds : (later : Selected) (fewer : List (ℕ × ℕ)) → ((l : Layout) → IsOn old selected l → IsOn new later (with_body body l))
-        → ((o : ℕ) → at o fewer ≡ cond (member o (touched r)) None (at o kept)) → Holds new later named fewer e
+        → ((o : ℕ) → at o fewer ≡ cond (member o (touched r)) None (at o kept)) → StoreHolds new later named fewer e
     append_holds later fewer on left = record {
       layout = with_body body h.layout;
       base = h.base;
@@ -199,7 +199,7 @@ module _ (d : Durable) (named : List ℕ) (kept : List (ℕ × ℕ)) (order : Is
         after : (c : List ℕ) → Lies c turned → StandsFor c d
         after c lies = lies_stands c turned d d new_places lies turn_checkpoint refl
 
-    pub turn_holds : (new : View) (later : Selected) → IsOn new later turned → Holds new later (numbers_in (placed kept d.volume (free_below (2 * d.max_objects) named))) (placed kept d.volume (free_below (2 * d.max_objects) named)) d
+    pub turn_holds : (new : View) (later : Selected) → IsOn new later turned → StoreHolds new later (numbers_in (placed kept d.volume (free_below (2 * d.max_objects) named))) (placed kept d.volume (free_below (2 * d.max_objects) named)) d
     turn_holds new later on = record {
       layout = turned;
       base = d;

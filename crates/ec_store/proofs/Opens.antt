@@ -16,7 +16,7 @@ use Rattle.ec_stands.specs.Stands.{StandsFor}
 use Rattle.ec_stands.specs.Checkpoints.{IsReadBack}
 use Rattle.ec_store.specs.Opening.{IsOpened, IsOlder, WasLeftOrStands, IsSameOrStands}
 use Rattle.ec_store.specs.declared.fault.StoreFault.{StoreFault}
-use Rattle.ec_store.specs.Store.{Holds, IsHeld, view_of}
+use Rattle.ec_store.specs.Store.{StoreHolds, IsHeld, view_of}
 use Rattle.ec_store.specs.declared.opening.Opened.{Opened}
 use Rattle.ec_store.specs.declared.store.Store.{Store}
 use Rattle.ec_store.proofs.Holding.{leaves_map, leaves_none}
@@ -32,8 +32,8 @@ pub is_held : (now : View) (image : List ℕ) (opened : Opened) (store : Store) 
     → ((o : ℕ) → at o store.kept ≡ cond (member o opened.ids.items) None (at o opened.places.items)) → IsHeld now store
 is_held now image opened store synced same two formed is state_is parts kept =
     let here : IsOpened now.gives opened = subst (λ i. IsOpened i opened) (sym same) is in
-    subst (λ d. Holds now store.selected store.named.items store.kept d) (sym state_is)
-    (subst (λ ns. Holds now store.selected ns store.kept opened.state) (sym parts.0)
+    subst (λ d. StoreHolds now store.selected store.named.items store.kept d) (sym state_is)
+    (subst (λ ns. StoreHolds now store.selected ns store.kept opened.state) (sym parts.0)
     (opened_holds now synced opened.places.items here.base here.bodies (subst (λ v. IsReadBack now.gives v opened.places.items here.base here.bodies) two here.read) opened.state here.steps formed store.selected
     (subst (λ s. IsSelected s (length (records here.bodies)) store.selected) here.side (subst (λ n. IsSelected opened.side n store.selected) here.ends parts.1)) opened.ids.items here.spares here.touches store.kept kept))
 

@@ -20,7 +20,7 @@ use Rattle.ec_codes.specs.Images.{image_code, image_form}
 use Rattle.ec_codes.specs.LengthLaws.{file_long, dir_long}
 use Rattle.ec_codes.specs.Formats.{rows_fit}
 use Rattle.ec_codes.specs.Fields.{id, word}
-use Rattle.ec_table.specs.Codes.{last_of, is_behind, is_above, id_above, ids_in, numbers_in, is_free, place_after}
+use Rattle.ec_table.specs.Codes.{last_row, is_behind, is_above, id_above, ids_in, numbers_in, is_free, place_after}
 use Rattle.ec_table.specs.declared.table.Version.TheVariants.{Two}
 use Rattle.ec_layout.specs.Layout.{IsFree, AreFree, IsAmong, AreAmong}
 use Rattle.ec_layout.specs.Pieces.{AreApart}
@@ -31,7 +31,7 @@ use Rattle.ec_store.proofs.Members.{clash, member_cases, member_none, member_her
 
 -- What a table asks of a place.
 
-pub last_push : {A : Type 0} (xs : List A) (x : A) → last_of (xs ++ x ∷ []) ≡ Some x
+pub last_push : {A : Type 0} (xs : List A) (x : A) → last_row (xs ++ x ∷ []) ≡ Some x
 last_push [] x = refl
 last_push (y ∷ []) x = refl
 last_push (y ∷ z ∷ xs) x = last_push (z ∷ xs) x

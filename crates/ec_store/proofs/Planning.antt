@@ -34,7 +34,7 @@ use Rattle.ec_layout.specs.Pieces.{AreApart, pieces_of}
 use Rattle.ec_layout.specs.declared.selected.Selected.{Selected}
 use Rattle.ec_store.specs.Places.{ArePlaces, placed, pieces}
 use Rattle.ec_store.specs.Plan.{IsPlan, PlansFor}
-use Rattle.ec_store.specs.Store.{Holds, HoldsIn, StandsForEither}
+use Rattle.ec_store.specs.Store.{StoreHolds, HoldsIn, StandsForEither}
 use Rattle.ec_store.specs.declared.plan.Plan.{Plan}
 use Rattle.ec_store.proofs.Holding.{plan_apart, plan_places, turned, turn_follows, turn_leaves, turn_holds, leaves_map}
 
@@ -78,11 +78,11 @@ module _ (d : Durable) (named : List ℕ) (kept : List (ℕ × ℕ)) (order : Is
     pub plan_leaves_either : (r : Record) (new : View) → ((l m : Layout) → Follows (other (side_now selected)) plan.table.items (pieces_of plan.pieces.items) l m → IsOn old selected l → LeavesOnly old new (λ image. Lies image l ⊎ Lies image m)) → LeavesOnly old new (StandsForEither r d)
     plan_leaves_either r new leaves = leaves_map (λ image. StandsFor image d) (StandsForEither r d) old new (λ c is. inl is) (plan_leaves new leaves)
 
-    pub plan_holds : (new : View) (later : Selected) → ((l m : Layout) → Follows (other (side_now selected)) plan.table.items (pieces_of plan.pieces.items) l m → IsOn old selected l → IsOn new later m) → Holds new later plan.named.items plan.kept d
+    pub plan_holds : (new : View) (later : Selected) → ((l m : Layout) → Follows (other (side_now selected)) plan.table.items (pieces_of plan.pieces.items) l m → IsOn old selected l → IsOn new later m) → StoreHolds new later plan.named.items plan.kept d
     unfolding after
     plan_holds new later on =
-        subst (λ ns. Holds new later ns plan.kept d) (sym is.numbers)
-        (subst (λ ps. Holds new later (numbers_in ps) ps d) (sym is.places) (turn_holds d named kept order are is.each v plan.table.items spelled_made fits_made old selected wider fewer h new later (on h.layout after follows h.on)))
+        subst (λ ns. StoreHolds new later ns plan.kept d) (sym is.numbers)
+        (subst (λ ps. StoreHolds new later (numbers_in ps) ps d) (sym is.places) (turn_holds d named kept order are is.each v plan.table.items spelled_made fits_made old selected wider fewer h new later (on h.layout after follows h.on)))
 
 -- the parts of a plan, put together
 pub plans : (state : Durable) (named : List ℕ) (wider kept : List (ℕ × ℕ)) (ids : List ℕ) → ((o : ℕ) → at o kept ≡ cond (member o ids) None (at o wider)) → (r : Result Plan NoMemory) → IfOk r (λ p. IsPlan state.max_objects named kept state.volume p)
@@ -137,7 +137,7 @@ module _ (d : Durable) (formed : WellFormed d) (plan : Plan) (is : IsPlan d.max_
   pub fresh_stands : (image : List ℕ) → Lies image fresh → StandsFor image d
   fresh_stands image lies = lies_stands image fresh d d plan.kept lies fresh_checkpoint refl
 
-  pub fresh_holds : (new : View) (selected : Selected) → IsOn new selected fresh → Holds new selected plan.named.items plan.kept d
+  pub fresh_holds : (new : View) (selected : Selected) → IsOn new selected fresh → StoreHolds new selected plan.named.items plan.kept d
   fresh_holds new selected on = record {
     layout = fresh;
     base = d;

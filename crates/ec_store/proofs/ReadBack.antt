@@ -35,7 +35,7 @@ use Rattle.ec_stands.specs.Laws.{read_back_lies, behind_journal, lies_stands_in}
 use Rattle.ec_stands.specs.FirstPlace.{front_of}
 use Rattle.ec_store.specs.Replay.{Spares, IsUntouched, HasRefused}
 use Rattle.ec_store.specs.Opening.{IsRead, IsOpened}
-use Rattle.ec_store.specs.Store.{HoldsIn, Holds}
+use Rattle.ec_store.specs.Store.{HoldsIn, StoreHolds}
 use Rattle.ec_store.specs.declared.opening.Opened.{Opened}
 use Rattle.ec_store.proofs.Members.{member_none, left_kept, keeps_left}
 use Rattle.ec_store.proofs.Placing.{place_stands}
@@ -185,7 +185,7 @@ module _ (now : View) (synced : IsSynced now) (v : Version) (places : List (ℕ 
 
 -- the images that no record changed are kept
 pub opened_holds : (now : View) → IsSynced now → (places : List (ℕ × ℕ)) (base : Durable) (bodies : List (List ℕ)) (read : IsReadBack now.gives Two places base bodies) (state : Durable) → StepsTo bodies base state → WellFormed state
-    → (selected : Selected) → IsSelected (side_in now.gives) (length (records bodies)) selected → (ids : List ℕ) → Spares ids base state → ((o : ℕ) → IsUntouched o bodies → member o ids ≡ false) → (kept : List (ℕ × ℕ)) → ((o : ℕ) → at o kept ≡ cond (member o ids) None (at o places)) → Holds now selected (numbers_in places) kept state
+    → (selected : Selected) → IsSelected (side_in now.gives) (length (records bodies)) selected → (ids : List ℕ) → Spares ids base state → ((o : ℕ) → IsUntouched o bodies → member o ids ≡ false) → (kept : List (ℕ × ℕ)) → ((o : ℕ) → at o kept ≡ cond (member o ids) None (at o places)) → StoreHolds now selected (numbers_in places) kept state
 opened_holds now synced places base bodies read state steps formed selected is ids spares touches kept left = record {
   layout = layout_in now.gives Two places base bodies;
   base = base;

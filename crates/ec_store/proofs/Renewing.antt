@@ -17,7 +17,7 @@ use Rattle.ec_stands.specs.Stands.{StandsFor}
 use Rattle.ec_store.specs.Places.{ArePlaces}
 use Rattle.ec_store.specs.Plan.{IsPlan}
 use Rattle.ec_store.specs.Opening.{IsOpened}
-use Rattle.ec_store.specs.Store.{Holds, HoldsIn}
+use Rattle.ec_store.specs.Store.{StoreHolds, HoldsIn}
 use Rattle.ec_store.specs.declared.opening.Opened.{Opened}
 use Rattle.ec_store.specs.declared.plan.Plan.{Plan}
 use Rattle.ec_store.proofs.Holding.{leaves_none, fewer_places}
@@ -63,5 +63,5 @@ module _ (opened : Opened) (named : List ℕ) (named_is : named ≡ numbers_in o
     pub renewed_leaves : (new : View) → ((l m : Layout) → Follows (other (side_now selected)) plan.table.items (pieces_of plan.pieces.items) l m → IsOn old selected l → LeavesOnly old new (λ image. Lies image l ⊎ Lies image m)) → LeavesOnly old new (λ image. StandsFor image opened.state)
     renewed_leaves new leaves = plan_leaves opened.state named [] formed.order free_places plan is opened.version spelled fits old selected [] (λ o s found. found) old_held new leaves
 
-    pub renewed_holds : (new : View) (later : Selected) → ((l m : Layout) → Follows (other (side_now selected)) plan.table.items (pieces_of plan.pieces.items) l m → IsOn old selected l → IsOn new later m) → Holds new later plan.named.items plan.kept opened.state
+    pub renewed_holds : (new : View) (later : Selected) → ((l m : Layout) → Follows (other (side_now selected)) plan.table.items (pieces_of plan.pieces.items) l m → IsOn old selected l → IsOn new later m) → StoreHolds new later plan.named.items plan.kept opened.state
     renewed_holds new later on = plan_holds opened.state named [] formed.order free_places plan is opened.version spelled fits old selected [] (λ o s found. found) old_held new later on

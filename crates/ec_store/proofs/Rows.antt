@@ -19,7 +19,7 @@ use Rattle.ec_sessions.specs.Slots.{Slots, slot_at, unspent_of, all_unspent}
 use Rattle.ec_sessions.specs.SlotChecks.{AreSlots}
 use Rattle.ec_sessions.specs.declared.slot.Slot.{Slot}
 use Rattle.ec_sessions.proofs.Rising.{increasing_from}
-use Rattle.ec_table.specs.Codes.{last_of, is_behind, is_above, id_above, ids_field, last_first_field, slot_fields, fields_of, slot_tag, slot_form, slot_code, slots_field, ids_in, place_after, places_field, state_fields, state_code, parts_of, old_table, new_table, table_code}
+use Rattle.ec_table.specs.Codes.{last_row, is_behind, is_above, id_above, ids_field, last_first_field, slot_fields, fields_of, slot_tag, slot_form, slot_code, slots_field, ids_in, place_after, places_field, state_fields, state_code, parts_of, old_table, new_table, table_code}
 use Rattle.ec_table.specs.declared.table.Table.{Table}
 use Rattle.ec_table.specs.declared.table.Version.{Version}
 use Rattle.ec_table.specs.declared.table.Version.TheVariants.{One, Two}
@@ -44,12 +44,12 @@ place_above most before p fits = (and_parts (id.fits p.0) (is_above (ids_in befo
 behind_is : (l : Option ℕ) (n m : ℕ) → l ≡ Some n → is_behind l m ≡ true → n < m
 behind_is l n m is h = ltb-true n m (ap (λ (x : Option ℕ). is_behind x m) (sym is) ∙ h)
 
-rise : (most : ℕ) (before xs : List (ℕ × ℕ)) (n : ℕ) → last_of (ids_in before) ≡ Some n → rows_fit (place_after most) before xs ≡ true → T (below_all nat_cmp n xs) × T (is_sorted nat_cmp xs)
+rise : (most : ℕ) (before xs : List (ℕ × ℕ)) (n : ℕ) → last_row (ids_in before) ≡ Some n → rows_fit (place_after most) before xs ≡ true → T (below_all nat_cmp n xs) × T (is_sorted nat_cmp xs)
 rise most before [] n last fits = (tt, tt)
 rise most before (x ∷ xs) n last fits =
     let parts = and_parts ((place_after most before).fits x) (rows_fit (place_after most) (before ++ x ∷ []) xs) fits in
-    let above : n < x.0 = behind_is (last_of (ids_in before)) n x.0 last (place_above most before x parts.0) in
-    let later = rise most (before ++ x ∷ []) xs x.0 (ap (λ (l : List ℕ). last_of l) (ids_push before x) ∙ last_push (ids_in before) x.0) parts.1 in
+    let above : n < x.0 = behind_is (last_row (ids_in before)) n x.0 last (place_above most before x parts.0) in
+    let later = rise most (before ++ x ∷ []) xs x.0 (ap (λ (l : List ℕ). last_row l) (ids_push before x) ∙ last_push (ids_in before) x.0) parts.1 in
     (both (is_lt (nat_cmp n x.0)) (below_all nat_cmp n xs) (is_less n x.0 above) (below_lower n x.0 above xs later.0), both (below_all nat_cmp x.0 xs) (is_sorted nat_cmp xs) later.0 later.1)
 
 pub places_rise : (most : ℕ) (xs : List (ℕ × ℕ)) → rows_fit (place_after most) [] xs ≡ true → T (is_sorted nat_cmp xs)
@@ -96,11 +96,11 @@ id_is_above : (before : List ℕ) (o : ℕ) → (id_above before).fits o ≡ tru
 unfolding id_above
 id_is_above before o fits = (and_parts (id.fits o) (is_above before o) fits).1
 
-rise_ids : (before xs : List ℕ) (n : ℕ) → last_of before ≡ Some n → rows_fit id_above before xs ≡ true → Above n xs × Rises xs
+rise_ids : (before xs : List ℕ) (n : ℕ) → last_row before ≡ Some n → rows_fit id_above before xs ≡ true → Above n xs × Rises xs
 rise_ids before [] n last fits = (tt, tt)
 rise_ids before (x ∷ xs) n last fits =
     let parts = and_parts ((id_above before).fits x) (rows_fit id_above (before ++ x ∷ []) xs) fits in
-    let above : n < x = behind_is (last_of before) n x last (id_is_above before x parts.0) in
+    let above : n < x = behind_is (last_row before) n x last (id_is_above before x parts.0) in
     let later = rise_ids (before ++ x ∷ []) xs x (last_push before x) parts.1 in
     ((above, lower xs above later.0), (later.0, later.1))
   where

@@ -21,7 +21,7 @@ use Rattle.ec_durable.specs.declared.record.RecordFault.{RecordFault}
 use Rattle.ec_durable.specs.declared.record.RecordFault.TheVariants.{NoSession, Done, Beyond, Unfit, NotReserved, BadAge, BadNumber, NoRoom, NoMemory}
 use Rattle.ec_durable.specs.WellFormed.{IsInOrder}
 use Rattle.ec_durable.specs.Durable.{formatted, step, slot, is_session, has_batch, is_beyond, low, marked, operations, op_fault, carried_out, unreserved, made}
-use Rattle.ec_durable.specs.Steps.{AreSoundOps, Refuses}
+use Rattle.ec_durable.specs.Steps.{AreSoundOps, RefusesRecord}
 use Rattle.ec_store.specs.Places.{ArePlaces}
 use Rattle.ec_store.specs.Stepping.{picked, behind, all_fit_ahead, with_volume, tried, IsBatchOf, IsSpare, IsTried}
 use Rattle.ec_store.proofs.Ahead.{operations_ahead}
@@ -163,7 +163,7 @@ module _ (t r : Record) (part : Table Image) (ops : List (ℕ × Update)) (d : D
       go (Err g) h = sym h ∙ is
       go (Ok e) h = absurd (not_Ok (sym is ∙ h))
 
-  pub tried_refuses : (f : RecordFault) → Refuses f (tried t part d) → Refuses f (step r d)
+  pub tried_refuses : (f : RecordFault) → RefusesRecord f (tried t part d) → RefusesRecord f (step r d)
   tried_refuses NoMemory is = tt
   tried_refuses NoSession is = tried_fault NoSession is
   tried_refuses (Done n) is = tried_fault (Done n) is
@@ -178,7 +178,7 @@ module _ (t r : Record) (part : Table Image) (ops : List (ℕ × Update)) (d : D
   ok_tried (Ok a) new h = tried_steps new h
   ok_tried (Err f) new h = tt
 
-  pub refused_tried : {A : Type 0} (x : Result A RecordFault) → IfErr x (λ f. Refuses f (tried t part d)) → IfErr x (λ f. Refuses f (step r d))
+  pub refused_tried : {A : Type 0} (x : Result A RecordFault) → IfErr x (λ f. RefusesRecord f (tried t part d)) → IfErr x (λ f. RefusesRecord f (step r d))
   refused_tried (Ok a) h = tt
   refused_tried (Err f) h = tried_refuses f h
 

@@ -41,12 +41,12 @@ pub record HoldsIn (v : Version) (now : View) (selected : Selected) (named : Lis
   -- in the version that is written, each slot that the table names is kept whose object no record has as an operand
   pub rest : v ≡ Two → (o s : ℕ) → at o places ≡ Some s → IsUntouched o layout.bodies → at o kept ≡ Some s
 
-abbrev pub Holds : View → Selected → List ℕ → List (ℕ × ℕ) → Durable → Type 0
-Holds now selected named kept state = HoldsIn Two now selected named kept state
+abbrev pub StoreHolds : View → Selected → List ℕ → List (ℕ × ℕ) → Durable → Type 0
+StoreHolds now selected named kept state = HoldsIn Two now selected named kept state
 
 -- the disk holds what this store has
 abbrev pub IsHeld : View → Store → Type 0
-IsHeld now store = Holds now store.selected store.named.items store.kept store.state
+IsHeld now store = StoreHolds now store.selected store.named.items store.kept store.state
 
 -- the state that a store shows
 abbrev pub view_of : Store → Durable

@@ -5,7 +5,7 @@ ghost use Rattle.ec_volume.specs.Update.{member, operands, fits};
 ghost use Rattle.ec_volume.specs.Volume.{images};
 ghost use Rattle.ec_durable.specs.declared.record.RecordFault.{RecordFault};
 ghost use Rattle.ec_durable.specs.Durable.{step};
-ghost use Rattle.ec_durable.specs.Steps.{AreSound, AreSoundOps, IdsAreBelow, Refuses};
+ghost use Rattle.ec_durable.specs.Steps.{AreSound, AreSoundOps, IdsAreBelow, RefusesRecord};
 ghost use Rattle.ec_store.specs.Places.{touched};
 ghost use Rattle.ec_store.specs.Stepping.{picked, behind, all_fit_ahead, fits_ahead, tried, IsBatchOf, IsSpare, IsTried};
 
@@ -28,7 +28,7 @@ pub(crate) fn step(
     requires below { IdsAreBelow state.old }
     requires ids { ids.now ≡ touched change.now }
     ensures ok { OnOk result (step change.now state.old ≡ Ok state.new) }
-    ensures refused { IfErr result (λ fault. Refuses fault (step change.now state.old)) }
+    ensures refused { IfErr result (λ fault. RefusesRecord fault (step change.now state.old)) }
     ensures unchanged { OnErr result ((f : RecordFault) → step change.now state.old ≡ Err f → state.new ≡ state.old) }
     ensures err { OnErr result (IsSpare state.old state.new) }
 {
@@ -55,7 +55,7 @@ fn step_batch(
     requires below { IdsAreBelow state.old }
     requires ids { ids.now ≡ flat_map (λ op. operands op.1) ops.now }
     ensures ok { OnOk result (step change.now state.old ≡ Ok state.new) }
-    ensures refused { IfErr result (λ fault. Refuses fault (step change.now state.old)) }
+    ensures refused { IfErr result (λ fault. RefusesRecord fault (step change.now state.old)) }
     ensures unchanged { OnErr result ((f : RecordFault) → step change.now state.old ≡ Err f → state.new ≡ state.old) }
     ensures err { OnErr result (IsSpare state.old state.new) }
 {
@@ -80,7 +80,7 @@ fn step_over(
     requires sound { AreSoundOps ops.now }
     requires below { IdsAreBelow state.old }
     ensures ok { OnOk result (IsTried trial.now part ops.now state.old state.new) }
-    ensures refused { IfErr result (λ fault. Refuses fault (tried trial.now part state.old)) }
+    ensures refused { IfErr result (λ fault. RefusesRecord fault (tried trial.now part state.old)) }
     ensures unchanged { OnErr result ((f : RecordFault) → tried trial.now part state.old ≡ Err f → state.new ≡ state.old) }
     ensures err { OnErr result (IsSpare state.old state.new) }
 {

@@ -19,7 +19,7 @@ use Rattle.ec_layout.specs.Places.{table_bytes}
 use Rattle.ec_table.specs.declared.table.Table.{Table}
 use Rattle.ec_table.specs.declared.table.Version.{Version}
 use Rattle.ec_table.specs.declared.table.Version.TheVariants.{One, Two}
-use Rattle.ec_table.specs.Codes.{last_first_field, last_of, is_behind, is_above, id_above, ids_field, slot_fields, slot_tag, is_slot_tag, fields_of, slot_of, never, to_never, held, slot_form, slot_code, always, slots_field, ids_in, numbers_in, is_free, place_after, place_spell, places_field, state_fields, parts_of, table_of, state_code, ends_at, in_size, sized, max_old_state, max_new_state, old_table, new_table, Versioned, spell_version, fits_version, in_version, read_version, table_code}
+use Rattle.ec_table.specs.Codes.{last_first_field, last_row, is_behind, is_above, id_above, ids_field, slot_fields, slot_tag, is_slot_tag, fields_of, slot_of, never, to_never, held, slot_form, slot_code, always, slots_field, ids_in, numbers_in, is_free, place_after, place_spell, places_field, state_fields, parts_of, table_of, state_code, ends_at, in_size, sized, max_old_state, max_new_state, old_table, new_table, Versioned, spell_version, fits_version, in_version, read_version, table_code}
 use Rattle.ec_base.specs.SmallLaws.{same_some}
 use Rattle.ec_base.specs.Options.{or_zero}
 
@@ -67,29 +67,29 @@ held_back false (Some sl) p e = go sl.is_open refl e
     go true is h = absurd cc
     go false is h = ap (slot_of false) (sym (same_some (fields_of sl) p h)) ∙ ap (λ o. Some (record sl { is_open = o })) (sym is)
 
-form_is : (t : ℕ) → IsFormat (slot_form t)
+slot_form_is : (t : ℕ) → IsFormat (slot_form t)
 unfolding slot_form
-form_is t =
+slot_form_is t =
     choice_is (eqb t 0) (variant never to_never empty) _ (variant_is never to_never empty empty-is (λ u. refl) never_back) (
     choice_is (eqb t 1) (variant (held true) (slot_of true) slot_fields) _ (variant_is (held true) (slot_of true) slot_fields slot_fields-is (held_forth true) (held_back true)) (
     choice_is (eqb t 2) (variant (held false) (slot_of false) slot_fields) _ (variant_is (held false) (slot_of false) slot_fields slot_fields-is (held_forth false) (held_back false)) (
     nothing_is)))
 
-abbrev IsTagged : ℕ → Format (Option Slot) → Type 0
-IsTagged t F = (s : Option Slot) → F.fits s ≡ true → slot_tag s ≡ t
+abbrev IsSlotTagged : ℕ → Format (Option Slot) → Type 0
+IsSlotTagged t F = (s : Option Slot) → F.fits s ≡ true → slot_tag s ≡ t
 
-tagged_or : (t k : ℕ) (F G : Format (Option Slot)) → IsTagged k F → IsTagged t G → IsTagged t (cond (eqb t k) F G)
-tagged_or t k F G f g = choose (eqb t k) (eqb-true t k)
+slot_tagged_or : (t k : ℕ) (F G : Format (Option Slot)) → IsSlotTagged k F → IsSlotTagged t G → IsSlotTagged t (cond (eqb t k) F G)
+slot_tagged_or t k F G f g = choose (eqb t k) (eqb-true t k)
   where
-    choose : (b : Bool) → (b ≡ true → t ≡ k) → IsTagged t (cond b F G)
+    choose : (b : Bool) → (b ≡ true → t ≡ k) → IsSlotTagged t (cond b F G)
     choose true e s h = f s h ∙ sym (e refl)
     choose false e s h = g s h
 
-in_never : IsTagged 0 (variant never to_never empty)
+in_never : IsSlotTagged 0 (variant never to_never empty)
 in_never None h = refl
 in_never (Some sl) h = absurd cc
 
-in_open : IsTagged 1 (variant (held true) (slot_of true) slot_fields)
+in_open : IsSlotTagged 1 (variant (held true) (slot_of true) slot_fields)
 in_open None h = absurd cc
 in_open (Some sl) h = go sl.is_open refl h
   where
@@ -97,7 +97,7 @@ in_open (Some sl) h = go sl.is_open refl h
     go true is k = rw is refl
     go false is k = absurd cc
 
-in_ended : IsTagged 2 (variant (held false) (slot_of false) slot_fields)
+in_ended : IsSlotTagged 2 (variant (held false) (slot_of false) slot_fields)
 in_ended None h = absurd cc
 in_ended (Some sl) h = go sl.is_open refl h
   where
@@ -105,20 +105,20 @@ in_ended (Some sl) h = go sl.is_open refl h
     go true is k = absurd cc
     go false is k = rw is refl
 
-in_nothing : (t : ℕ) → IsTagged t nothing
-in_nothing t s h = absurd cc
+slot_in_nothing : (t : ℕ) → IsSlotTagged t nothing
+slot_in_nothing t s h = absurd cc
 
-form_tags : (t : ℕ) → IsTagged t (slot_form t)
+slot_form_tags : (t : ℕ) → IsSlotTagged t (slot_form t)
 unfolding slot_form
-form_tags t =
-    tagged_or t 0 (variant never to_never empty) _ in_never (
-    tagged_or t 1 (variant (held true) (slot_of true) slot_fields) _ in_open (
-    tagged_or t 2 (variant (held false) (slot_of false) slot_fields) _ in_ended (
-    in_nothing t)))
+slot_form_tags t =
+    slot_tagged_or t 0 (variant never to_never empty) _ in_never (
+    slot_tagged_or t 1 (variant (held true) (slot_of true) slot_fields) _ in_open (
+    slot_tagged_or t 2 (variant (held false) (slot_of false) slot_fields) _ in_ended (
+    slot_in_nothing t)))
 
 pub slot-is : IsFormat slot_code
 unfolding slot_code
-slot-is = tagged_is is_slot_tag slot_tag slot_form form_is form_tags
+slot-is = tagged_is is_slot_tag slot_tag slot_form slot_form_is slot_form_tags
 
 always_is : (n : ℕ) → IsFormat (always n)
 always_is n = record {
@@ -278,7 +278,7 @@ table_is most = record {
 
 -- The last of those before.
 
-last_got : {A : Type 0} (xs : List A) (d : A) → 0 < length xs → last_of xs ≡ Some (get_or xs (length xs - 1) d)
+last_got : {A : Type 0} (xs : List A) (d : A) → 0 < length xs → last_row xs ≡ Some (get_or xs (length xs - 1) d)
 last_got [] d lt = absurd (omega arith)
 last_got (x ∷ []) d lt = refl
 last_got (x ∷ y ∷ xs) d lt =
@@ -288,7 +288,7 @@ last_got (x ∷ y ∷ xs) d lt =
 pub above_last : (before : List ℕ) (b n : ℕ) → 0 < length before → b ≡ get_or before (length before - 1) b → is_above before n ≡ nat_lt b n
 above_last before b n lt h = ap (λ o. is_behind o n) (last_got before b lt ∙ ap (λ x. Some x) (sym h))
 
-last_in : (places : List (ℕ × ℕ)) (p : ℕ × ℕ) → last_of places ≡ Some p → last_of (ids_in places) ≡ Some p.0
+last_in : (places : List (ℕ × ℕ)) (p : ℕ × ℕ) → last_row places ≡ Some p → last_row (ids_in places) ≡ Some p.0
 last_in [] p h = absurd cc
 last_in (q ∷ []) p h = ap (λ x. Some x.0) (same_some q p h)
 last_in (q ∷ r ∷ places) p h = last_in (r ∷ places) p h

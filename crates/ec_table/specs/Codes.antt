@@ -21,10 +21,10 @@ use Rattle.ec_base.specs.Options.{or_zero}
 unfoldable pub last_first_field : Format (Option ℕ)
 last_first_field = standing or_zero is_from_one id_or_none word
 
-abbrev pub last_of : {A : Type 0} → List A → Option A
-last_of [] = None
-last_of (x ∷ []) = Some x
-last_of (x ∷ y ∷ xs) = last_of (y ∷ xs)
+abbrev pub last_row : {A : Type 0} → List A → Option A
+last_row [] = None
+last_row (x ∷ []) = Some x
+last_row (x ∷ y ∷ xs) = last_row (y ∷ xs)
 
 abbrev pub is_behind : Option ℕ → ℕ → Bool
 is_behind None n = true
@@ -32,7 +32,7 @@ is_behind (Some b) n = nat_lt b n
 
 -- the number is above the last one before it
 abbrev pub is_above : List ℕ → ℕ → Bool
-is_above before n = is_behind (last_of before) n
+is_above before n = is_behind (last_row before) n
 
 -- an id above those before it
 unfoldable pub id_above : List ℕ → Format ℕ

@@ -3,7 +3,7 @@ ghost use Rattle.std.specs.Prelude.{◌≡◌, ◌⊎◌, ◌+◌, ◌<◌, ℕ,
 ghost use Rattle.std.specs.declared.snapshot.Snapshot.{Snapshot as Shot};
 ghost use mathlib.Core.List.{IsPrefix};
 ghost use Rattle.ec_link.specs.NetAnswers.{IsEmpty, is_bad};
-ghost use Rattle.ec_link.specs.JobCounts.{taken};
+ghost use Rattle.ec_link.specs.JobCounts.{job_taken};
 ghost use Rattle.ec_lock.specs.PassViews.{front, numbers};
 ghost use Rattle.ec_lock.specs.Steps.{Member, of};
 ghost use Rattle.ec_servernode.specs.Run.{number_of};
@@ -58,7 +58,7 @@ impl<'s, 'b, K: Keeper + Drop, N: Net> Connections<'s, 'b, K, N> {
         ensures later { IsPrefix (front pass.old.pass) (front pass.new.pass) }
         ensures own { (n : ℕ) → Member n (numbers pass.old.pass) → of number_of n (front pass.old.pass) ≡ of number_of n (front pass.new.pass) }
         ensures left { self.new.left + length self.new.begun.items ≡ self.old.left + length self.old.begun.items }
-        ensures begun { length self.new.begun.items ≡ length self.old.begun.items + taken result }
+        ensures begun { length self.new.begun.items ≡ length self.old.begun.items + job_taken result }
         ensures wants { self.new.wants ≡ false → self.old.wants ≡ false }
         ensures none { IfNone result (self.new.wants ≡ true) }
         ensures some { IfSome result (λ c. (c.server ≡ self.old.server) × IsServerPass K.kept self.old.server.now.lock c.pass × BeginsSo N.Link.given N.Link.got c.pass.pass c.link) }
@@ -133,7 +133,7 @@ impl<'s, 'b, K: Keeper + Drop, N: Net> Connections<'s, 'b, K, N> {
         ensures goes { GoesOn N.faults N.bad N.ended (back_of N.Link.faults N.Link.closes N.Link.given N.Link.got)
             (moment net.old self.old.left self.old.begun.items self.old.back.items self.old.failed self.old.wants pass.old.pass)
             (moment net.new self.new.left self.new.begun.items self.new.back.items self.new.failed self.new.wants pass.new.pass) }
-        ensures begun { length self.new.begun.items ≡ length self.old.begun.items + taken result }
+        ensures begun { length self.new.begun.items ≡ length self.old.begun.items + job_taken result }
         ensures back { self.new.back ≡ self.old.back }
         ensures some { IfSome result (λ c. (c.server ≡ self.old.server) × IsServerPass K.kept self.old.server.now.lock c.pass × BeginsSo N.Link.given N.Link.got c.pass.pass c.link) }
     {

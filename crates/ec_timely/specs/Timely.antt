@@ -11,7 +11,7 @@ use Rattle.ec_protocol.specs.World.{Fate, happen}
 use Rattle.ec_protocol.specs.declared.world.Event.{Event}
 use Rattle.ec_protocol.specs.declared.world.Event.TheVariants as event
 use Rattle.ec_protocol.specs.declared.world.World.{World}
-use Rattle.ec_lawful.specs.Steps.{Holds}
+use Rattle.ec_lawful.specs.Steps.{HoldsIn}
 use Rattle.ec_lawful.specs.Whole.{Whole}
 use Rattle.ec_lease_machine.specs.World.{goes_to, resume, session}
 use Rattle.ec_printed.specs.Printed.{AreTimely}
@@ -28,8 +28,8 @@ MayAnswer w _ = ⊤
 
 -- Then the lines are timely behind it, where they were before.
 abbrev pub EventsAreTimely : Type 0
-EventsAreTimely = (fate : Fate) (e : Event) (w : World) → Holds Whole w → MayAnswer w e → (happen fate e w).fault ≡ None → AreTimely [] w.shown → AreTimely [] (happen fate e w).world.shown
+EventsAreTimely = (fate : Fate) (e : Event) (w : World) → HoldsIn Whole w → MayAnswer w e → (happen fate e w).fault ≡ None → AreTimely [] w.shown → AreTimely [] (happen fate e w).world.shown
 
 -- So they are where a call begins behind its line.
 abbrev pub ResumesAreTimely : Type 0
-ResumesAreTimely = (w : World) → Holds Whole w → (c l : ℕ) (cl : Call) → T (is_bounded cl) → IsTold c w → (resume c l cl w).fault ≡ None → AreTimely [] w.shown → AreTimely [] (resume c l cl w).world.shown
+ResumesAreTimely = (w : World) → HoldsIn Whole w → (c l : ℕ) (cl : Call) → T (is_bounded cl) → IsTold c w → (resume c l cl w).fault ≡ None → AreTimely [] w.shown → AreTimely [] (resume c l cl w).world.shown

@@ -12,7 +12,7 @@ use Rattle.ec_base.specs.SortedLaws.{put-put, put-found, first as front}
 use Rattle.ec_base.specs.declared.ids.Hold.{Hold}
 use Rattle.ec_tokens.specs.declared.token.Token.{Token}
 use Rattle.ec_base.specs.Holds.{clash}
-use Rattle.ec_tokens.specs.Tokens.{Row, Tokens, with_row, Holder, holders, held_by, mode, first, first_conflict, is_conflict}
+use Rattle.ec_tokens.specs.Tokens.{Row, Tokens, with_row, Holder, holders, held_by, mode, first_holder, first_conflict, is_conflict}
 use Rattle.ec_tokens.specs.SoundTokens.{IsSound}
 use Rattle.ec_base.proofs.Bools.{no-longer}
 
@@ -31,7 +31,7 @@ module _ (ts : Tokens) (i : ℕ) (r : ℕ × Row) (within : i < length ts) (is :
       more : List Holder
       more = holders (drop (i + 1) ts) x
 
-      go : (o : Option Token) → first (filter (is_conflict s h) (held_by r.0 o more)) ≡ cond (not (r.0 == s) && clash (mode o) h) (Some r.0) (first (filter (is_conflict s h) more))
+      go : (o : Option Token) → first_holder (filter (is_conflict s h) (held_by r.0 o more)) ≡ cond (not (r.0 == s) && clash (mode o) h) (Some r.0) (first_holder (filter (is_conflict s h) more))
       go None = grind arith
       go (Some k) = grind arith
 

@@ -4,6 +4,6 @@ use Rattle.ec_tokens.specs.declared.tokens.ClaimFault.{ClaimFault}
 use Rattle.ec_tokens.specs.declared.tokens.ClaimFault.TheVariants.{Clash, NoMemory}
 
 -- A clash is the first one; want of memory shows nothing.
-abbrev pub Shows : Option (ℕ × ℕ) → ClaimFault → Type 0
-Shows first (Clash x t) = first ≡ Some (x, t)
-Shows first NoMemory = Unit {0}
+abbrev pub ShowsClash : Option (ℕ × ℕ) → ClaimFault → Type 0
+ShowsClash first (Clash x t) = first ≡ Some (x, t)
+ShowsClash first NoMemory = Unit {0}

@@ -17,7 +17,7 @@ use Rattle.ec_base.specs.Sorted.{without}
 use Rattle.ec_base.specs.SortedLaws.{first as front, second as rest, both, find-without, not_None, same_Some}
 use Rattle.ec_tokens.specs.declared.token.Token.{Token}
 use Rattle.ec_base.specs.Holds.{is_free, is_below, clash}
-use Rattle.ec_tokens.specs.Tokens.{Row, Tokens, with_row, Holder, held_by, is_conflict, row, row_of, token, mode, holders, first, first_conflict, is_clear, granted, fits_back, lowered, claimed_in, claimed, clash_at, first_clash}
+use Rattle.ec_tokens.specs.Tokens.{Row, Tokens, with_row, Holder, held_by, is_conflict, row, row_of, token, mode, holders, first_holder, first_conflict, is_clear, granted, fits_back, lowered, claimed_in, claimed, clash_at, first_clash}
 use Rattle.ec_tokens.specs.SoundTokens.{is_row, IsSound}
 
 -- Maps by number.
@@ -108,11 +108,11 @@ holder_has (r ∷ rs) x h rising c = go (find nat_cmp x r.1) refl c (holder_has 
     go None q m f = later m (f m)
     go (Some k) q m f = ⊎_elim (here k q) (λ n. later n (f n)) (first_or (holder_of r.0 k) (holders rs x) h m)
 
-none_pass : (test : Holder → Bool) (hs : List Holder) (h : Holder) → is_none (first (filter test hs)) ≡ true → Contains hs h → test h ≡ false
+none_pass : (test : Holder → Bool) (hs : List Holder) (h : Holder) → is_none (first_holder (filter test hs)) ≡ true → Contains hs h → test h ≡ false
 none_pass test [] h c m = absurd (omega (arith, m.1))
 none_pass test (g ∷ hs) h c m = go (test g) refl c (none_pass test hs h)
   where
-    go : (b : Bool) → test g ≡ b → is_none (first (cond b (g ∷ filter test hs) (filter test hs))) ≡ true → (is_none (first (filter test hs)) ≡ true → Contains hs h → test h ≡ false) → test h ≡ false
+    go : (b : Bool) → test g ≡ b → is_none (first_holder (cond b (g ∷ filter test hs) (filter test hs))) ≡ true → (is_none (first_holder (filter test hs)) ≡ true → Contains hs h → test h ≡ false) → test h ≡ false
     go true e d f = absurd (grind arith)
     go false e d f = ⊎_elim (λ is. ap test (sym is) ∙ e) (f d) (first_or g hs h m)
 

@@ -48,12 +48,12 @@ is_conflict s h holder = not (holder.0 == s) && clash holder.1 h
 abbrev pub conflicts : Tokens → ℕ → ℕ → Hold → List Holder
 conflicts ts s x h = filter (is_conflict s h) (holders ts x)
 
-abbrev pub first : List Holder → Option ℕ
-first [] = None
-first (holder ∷ more) = Some holder.0
+abbrev pub first_holder : List Holder → Option ℕ
+first_holder [] = None
+first_holder (holder ∷ more) = Some holder.0
 
 abbrev pub first_conflict : Tokens → ℕ → ℕ → Hold → Option ℕ
-first_conflict ts s x h = first (conflicts ts s x h)
+first_conflict ts s x h = first_holder (conflicts ts s x h)
 
 abbrev pub is_clear : Tokens → ℕ → ℕ → Hold → Bool
 is_clear ts s x h = is_none (first_conflict ts s x h)

@@ -5,7 +5,7 @@ ghost use Rattle.std.specs.List.{filter};
 ghost use Rattle.std.specs.Option.{option_map};
 ghost use Rattle.std.specs.Ordering.{nat_cmp};
 ghost use Rattle.ec_base.specs.Sorted.{without};
-ghost use Rattle.ec_tokens.specs.Claims.{Shows};
+ghost use Rattle.ec_tokens.specs.Claims.{ShowsClash};
 ghost use Rattle.ec_tokens.specs.Tokens as tokens;
 ghost use Rattle.ec_tokens.specs.SoundTokens as sound_tokens;
 
@@ -160,7 +160,7 @@ impl Tokens {
         requires { IsTrue (sound_tokens.is_claim list.now) }
         ensures ok { OnOk result (self.new ≡ tokens.claimed s list.now self.old) }
         ensures clear { OnOk result (tokens.first_clash self.old s list.now ≡ None) }
-        ensures clash { IfErr result (λ fault. Shows (tokens.first_clash self.old s list.now) fault) }
+        ensures clash { IfErr result (λ fault. ShowsClash (tokens.first_clash self.old s list.now) fault) }
         ensures err { OnErr result (self.new ≡ self.old) }
         ensures sound { sound_tokens.IsSound self.new }
     {

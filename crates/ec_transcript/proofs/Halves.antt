@@ -8,7 +8,7 @@ use Rattle.ec_legal.specs.Bounded.{is_bounded_line}
 use Rattle.ec_script.specs.Lines.{lines_of}
 use Rattle.ec_words.specs.Pieces.{onto}
 use Rattle.ec_transcript.specs.Lines.{AreShown, IsBadLine}
-use Rattle.ec_transcript.specs.LinesRead.{IsRead, HasBadLine}
+use Rattle.ec_transcript.specs.LinesRead.{TranscriptIsRead, HasBadLine}
 use Rattle.ec_transcript.specs.declared.lines.ReadFault.{ReadFault}
 use Rattle.ec_transcript.specs.declared.lines.ReadFault.TheVariants as fault
 use Rattle.ec_transcript.proofs.Reading.{same-length}
@@ -82,7 +82,7 @@ pub bounded-append : (ss ts : List Shown) → T (list_all is_bounded_line ss) �
 bounded-append [] ts h k = k
 bounded-append (s ∷ ss) ts h k = both (is_bounded_line s) _ (left (is_bounded_line s) _ h) (bounded-append ss ts (right (is_bounded_line s) _ h) k)
 
-pub read-both : (bs front back : List ℕ) (ss ts : List Shown) → lines_of bs ≡ lines_of front ++ lines_of back → bs ≡ front ++ back → IsRead front ss → IsRead back ts → IsRead bs (ss ++ ts)
+pub read-both : (bs front back : List ℕ) (ss ts : List Shown) → lines_of bs ≡ lines_of front ++ lines_of back → bs ≡ front ++ back → TranscriptIsRead front ss → TranscriptIsRead back ts → TranscriptIsRead bs (ss ++ ts)
 read-both bs front back ss ts e b h k =
     let m : length (ss ++ ts) ≡ length ss + length ts = length-append ss ts in
     let n : length bs ≡ length front + length back = ap length b ∙ length-append front back in
@@ -109,7 +109,7 @@ pub above-fault : (bs front back : List ℕ) (f : ReadFault) → lines_of bs ≡
 above-fault bs front back (fault.BadLine n column) e k = bad-above bs front back n column e k
 above-fault bs front back fault.NoMemory e k = tt
 
-pub bad-below : (bs front back : List ℕ) (ss : List Shown) (m n column : ℕ) → lines_of bs ≡ lines_of front ++ lines_of back → IsRead front ss → IsBadLine back n column → m ≡ length ss + n → IsBadLine bs m column
+pub bad-below : (bs front back : List ℕ) (ss : List Shown) (m n column : ℕ) → lines_of bs ≡ lines_of front ++ lines_of back → TranscriptIsRead front ss → IsBadLine back n column → m ≡ length ss + n → IsBadLine bs m column
 bad-below bs front back ss m n column e h k q =
     let many : length (lines_of front) ≡ length ss = same-length (lines_of front) ss h.lines in
     let long : length (lines_of front ++ k.above) ≡ length (lines_of front) + length k.above = length-append (lines_of front) k.above in

@@ -21,7 +21,7 @@ use Rattle.ec_shown.specs.Lines.{IsShown, IsUnfit}
 use Rattle.ec_shown.specs.Showable.{IsShowable, ShowableCall, ArePaths, IsPathOf}
 use Rattle.ec_shown.proofs.Ranges.{in_ranges}
 use Rattle.ec_transcript.specs.Lines.{AreShown, IsBadLine}
-use Rattle.ec_transcript.specs.LinesRead.{IsRead}
+use Rattle.ec_transcript.specs.LinesRead.{TranscriptIsRead}
 use Rattle.ec_base.proofs.Bools.{both, first as left, right}
 use Rattle.ec_base.proofs.Lists.{none_left}
 
@@ -113,7 +113,7 @@ all-read-in : (bytes rest : List ℕ) (ss : List Shown) → true ≡ (length res
 all-read-in bytes rest ss e r = all-read (lines_of bytes) ss (subst (λ x. Read (lines_of bytes) (lines_of x) ss) (none_left rest e) r)
 
 -- the same, with each call within its bounds
-pub read-whole : (bytes rest : List ℕ) (ss : List Shown) → true ≡ (length rest == 0) → Read (lines_of bytes) (lines_of rest) ss → length ss + length rest ≤ length bytes → IsRead bytes ss
+pub read-whole : (bytes rest : List ℕ) (ss : List Shown) → true ≡ (length rest == 0) → Read (lines_of bytes) (lines_of rest) ss → length ss + length rest ≤ length bytes → TranscriptIsRead bytes ss
 read-whole bytes rest ss e r l = record { lines = all-read-in bytes rest ss e r; bounded = r.bounded; few = omega (arith, l) }
 
 -- the line behind those that are read is outside the grammar

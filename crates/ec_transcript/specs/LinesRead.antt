@@ -9,7 +9,7 @@ use Rattle.ec_transcript.specs.declared.lines.ReadFault.TheVariants as fault
 use Rattle.ec_transcript.specs.Lines.{AreShown, IsBadLine}
 
 -- All lines are read so, each call within its bounds.
-pub record IsRead (bytes : List ℕ) (ss : List Shown) : Type 0 where
+pub record TranscriptIsRead (bytes : List ℕ) (ss : List Shown) : Type 0 where
   pub lines : AreShown (lines_of bytes) ss
   pub bounded : T (list_all is_bounded_line ss)
   pub few : length ss ≤ length bytes

@@ -3,7 +3,7 @@ ghost use Rattle.std.specs.Prelude.{◌≡◌, ◌≤◌, ◌++◌, ◌∷◌, i
 ghost use Rattle.ec_legal.specs.Bounded.{is_bounded_line};
 ghost use Rattle.ec_shown.specs.Lines.{IsShown, IsUnfit};
 ghost use Rattle.ec_transcript.specs.Limits.{max_transcript_bytes};
-ghost use Rattle.ec_transcript.specs.LinesRead.{IsRead, HasBadLine};
+ghost use Rattle.ec_transcript.specs.LinesRead.{TranscriptIsRead, HasBadLine};
 
 use ec_base::NoMemory;
 use ec_history::Shown;
@@ -24,7 +24,7 @@ pub enum ReadFault {
 /// Reads each line, and leaves room for so many more behind them, where there is memory for it.
 pub fn read_lines(alloc: Global, bytes: &[u8], room: usize) -> Result<Vec<Shown>, ReadFault>
     requires { length bytes.now ≤ max_transcript_bytes }
-    ensures read { IfOk result (λ shown. IsRead bytes.now shown.items) }
+    ensures read { IfOk result (λ shown. TranscriptIsRead bytes.now shown.items) }
     ensures fault { IfErr result (λ fault. HasBadLine bytes.now fault) }
 {
     let mut lines = Vec::new(alloc);

@@ -3,7 +3,7 @@ ghost use Rattle.std.specs.Prelude.{◌≡◌, ◌≢◌, ◌≤◌, ◌<◌, �
 ghost use Rattle.std.specs.Thread.{IsSync};
 ghost use Rattle.ec_script.specs.Lines.{lines_of};
 ghost use Rattle.ec_transcript.specs.Limits.{max_transcript_bytes};
-ghost use Rattle.ec_transcript.specs.LinesRead.{IsRead, HasBadLine};
+ghost use Rattle.ec_transcript.specs.LinesRead.{TranscriptIsRead, HasBadLine};
 ghost use Rattle.ec_transcript.specs.declared.lines.ReadFault.TheVariants.{NoMemory};
 
 use crate::lines::{ReadFault, count_about, read_lines};
@@ -23,7 +23,7 @@ pub fn read_parts<R: Threads + Sync>(
     room: usize,
 ) -> Result<Vec<Shown>, ReadFault>
     requires { length bytes.now ≤ max_transcript_bytes }
-    ensures read { IfOk result (λ shown. IsRead bytes.now shown.items) }
+    ensures read { IfOk result (λ shown. TranscriptIsRead bytes.now shown.items) }
     ensures fault { IfErr result (λ fault. HasBadLine bytes.now fault) }
 {
     if parts < 2 {
@@ -35,11 +35,11 @@ pub fn read_parts<R: Threads + Sync>(
     let high = parts - low;
     let upper = move || -> Result<Vec<Shown>, ReadFault>
         requires { IsSync R.row × (length front.now ≤ max_transcript_bytes) }
-        ensures { IfOk result (λ shown. IsRead front.entry.now shown.items) × IfErr result (λ fault. HasBadLine front.entry.now fault) }
+        ensures { IfOk result (λ shown. TranscriptIsRead front.entry.now shown.items) × IfErr result (λ fault. HasBadLine front.entry.now fault) }
     { read_parts(rt, alloc, front, low, front_room) };
     let lower = move || -> Result<Vec<Shown>, ReadFault>
         requires { IsSync R.row × (length back.now ≤ max_transcript_bytes) }
-        ensures { IfOk result (λ shown. IsRead back.entry.now shown.items) × IfErr result (λ fault. HasBadLine back.entry.now fault) }
+        ensures { IfOk result (λ shown. TranscriptIsRead back.entry.now shown.items) × IfErr result (λ fault. HasBadLine back.entry.now fault) }
     { read_parts(rt, alloc, back, high, 0) };
     let (above, below) = join(rt, upper, lower);
     let lines = above?;

@@ -2,7 +2,7 @@
 ghost use Rattle.std.specs.Prelude.{◌≡◌, ◌==◌, ℕ, T, true, false, None, [], ◌∷◌, OnOk, OnErr, IfOk};
 ghost use Rattle.std.specs.Ordering.{nat_cmp};
 ghost use Rattle.std.specs.FinMap.{put};
-ghost use Rattle.ec_base.specs.SortedPlaces.{Stands};
+ghost use Rattle.ec_base.specs.SortedPlaces.{StandsAt};
 ghost use Rattle.ec_volume.specs.Image.{is_gone, new_object};
 ghost use Rattle.ec_volume.specs.Update.{is_sound, operands, first_unfit, fits, effect};
 ghost use Rattle.ec_volume.specs.Volume.{images, after};
@@ -148,7 +148,7 @@ pub(crate) fn change_at(
     place: usize,
 ) -> Result<(), NoMemory>
     requires volume { IsVolume map.old }
-    requires stands { Stands nat_cmp id map.old place }
+    requires stands { StandsAt nat_cmp id map.old place }
     requires sound { T (is_sound update.now) }
     requires fits { fits update.now id (images map.old id) ≡ true }
     requires live { is_gone (images map.old id) ≡ false }

@@ -7,8 +7,8 @@ use Rattle.ec_history.specs.declared.shown.Shown.TheVariants.{Waits, Answered, D
 use Rattle.ec_history.specs.declared.watch.Watch.{Watch}
 
 -- the running start has a session, to which its early operations belong
-abbrev pub shown : Watch → Watch
-shown w = record w { open_start = or_else w.open_start w.starts; undurable = w.early ++ w.undurable; early = [] }
+abbrev pub shown_watch : Watch → Watch
+shown_watch w = record w { open_start = or_else w.open_start w.starts; undurable = w.early ++ w.undurable; early = [] }
 
 abbrev pub crashed : Watch → Watch
 crashed w = record w { running = false; early = []; untold = None; crashed = true }

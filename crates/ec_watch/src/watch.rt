@@ -2,7 +2,7 @@
 ghost use Rattle.std.specs.Prelude.{◌≡◌, ◌<◌, ◌≤◌, ◌+◌, ◌^◌, ◌++◌, [], true, false, not, filter, IfOk, OnOk, T};
 ghost use Rattle.std.specs.List.{list_all};
 ghost use Rattle.ec_volume.specs.Update.{member, listed};
-ghost use Rattle.ec_watch.specs.Watches.{shown, crashed};
+ghost use Rattle.ec_watch.specs.Watches.{shown_watch as shown, crashed};
 ghost use Rattle.ec_history.specs.Placing.{shows, unwatched, begun, answered, owner, is_running, to_lose, ended, watch_next, may_show, same_numbers};
 
 use ec_base::{ClerkId, Duplicate, List, NoMemory, OpNo};

@@ -3,7 +3,7 @@ ghost use Rattle.std.specs.Prelude.{◌≡◌, ◌<◌, ◌+◌, ◌^◌, ◌++�
 ghost use Rattle.std.specs.List.{list_all};
 ghost use Rattle.ec_base.specs.Limits.{clerk_count};
 ghost use Rattle.ec_volume.specs.Update.{member, listed};
-ghost use Rattle.ec_watch.specs.Watches.{AreWatched, clerk_of, shown, crashed};
+ghost use Rattle.ec_watch.specs.Watches.{AreWatched, clerk_of, shown_watch as shown, crashed};
 ghost use Rattle.ec_history.specs.declared.watch.Watch.{Watch};
 ghost use Rattle.ec_history.specs.Placing.{unwatched, begun, answered, owner, is_running, to_lose, ended, watch_next, may_show, same_numbers};
 

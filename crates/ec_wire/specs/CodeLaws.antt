@@ -161,24 +161,24 @@ old_boot-is : IsFormat old_boot_fields
 unfolding old_boot_fields
 old_boot-is = then_is age_field _ age-is (λ asked. age-is)
 
-abbrev IsTagged : ℕ → Format Msg → Type 0
-IsTagged b F = (m : Msg) → F.fits m ≡ true → msg_byte m ≡ b
+abbrev IsMessageTagged : ℕ → Format Msg → Type 0
+IsMessageTagged b F = (m : Msg) → F.fits m ≡ true → msg_byte m ≡ b
 
-choose : (t k : ℕ) (F G : Format Msg) (b : Bool) → (b ≡ true → t ≡ k) → IsTagged k F → IsTagged t G → IsTagged t (cond b F G)
+choose : (t k : ℕ) (F G : Format Msg) (b : Bool) → (b ≡ true → t ≡ k) → IsMessageTagged k F → IsMessageTagged t G → IsMessageTagged t (cond b F G)
 choose t k F G true e f g m h = f m h ∙ sym (e refl)
 choose t k F G false e f g m h = g m h
 
-tagged_or : (t k : ℕ) (F G : Format Msg) → IsTagged k F → IsTagged t G → IsTagged t (cond (eqb t k) F G)
-tagged_or t k F G f g = choose t k F G (eqb t k) (eqb-true t k) f g
+msg_tagged_or : (t k : ℕ) (F G : Format Msg) → IsMessageTagged k F → IsMessageTagged t G → IsMessageTagged t (cond (eqb t k) F G)
+msg_tagged_or t k F G f g = choose t k F G (eqb t k) (eqb-true t k) f g
 
-in_nothing : (t : ℕ) → IsTagged t nothing
-in_nothing t m h = absurd cc
+msg_in_nothing : (t : ℕ) → IsMessageTagged t nothing
+msg_in_nothing t m h = absurd cc
 
 hello_back : (m : Msg) (x : (ℕ × Age)) → hello_parts m ≡ Some x → to_hello x ≡ m
 hello_back (Hello c age) parts same = ap to_hello (sym (same_some _ parts same))
 hello_back _ x e = absurd cc
 
-in_hello : IsTagged 8 (variant hello_parts to_hello hello_fields)
+in_hello : IsMessageTagged 8 (variant hello_parts to_hello hello_fields)
 in_hello (Hello c age) fits = refl
 in_hello _ h = absurd cc
 
@@ -186,7 +186,7 @@ want_back : (m : Msg) (x : (ℕ × (ℕ × (ℕ × (Hold × ℕ))))) → want_pa
 want_back (Want s e x h last) parts same = ap to_want (sym (same_some _ parts same))
 want_back _ x e = absurd cc
 
-in_want : IsTagged 2 (variant want_parts to_want want_fields)
+in_want : IsMessageTagged 2 (variant want_parts to_want want_fields)
 in_want (Want s e x h last) fits = refl
 in_want _ h = absurd cc
 
@@ -194,7 +194,7 @@ back_back : (m : Msg) (x : (ℕ × (ℕ × (ℕ × (ℕ × Hold))))) → back_pa
 back_back (Back s e x n h) parts same = ap to_back (sym (same_some _ parts same))
 back_back _ x e = absurd cc
 
-in_back : IsTagged 3 (variant back_parts to_back back_fields)
+in_back : IsMessageTagged 3 (variant back_parts to_back back_fields)
 in_back (Back s e x n h) fits = refl
 in_back _ h = absurd cc
 
@@ -202,7 +202,7 @@ flush_back : (m : Msg) (x : (ℕ × (ℕ × (ℕ × List (ℕ × Update))))) →
 flush_back (Flush s e b ops) parts same = ap to_flush (sym (same_some _ parts same))
 flush_back _ x e = absurd cc
 
-in_flush : IsTagged 4 (variant flush_parts to_flush flush_fields)
+in_flush : IsMessageTagged 4 (variant flush_parts to_flush flush_fields)
 in_flush (Flush s e b ops) fits = refl
 in_flush _ h = absurd cc
 
@@ -210,7 +210,7 @@ room_back : (m : Msg) (x : (ℕ × (ℕ × (ℕ × ℕ)))) → room_parts m ≡ 
 room_back (Room s e got ask) parts same = ap to_room (sym (same_some _ parts same))
 room_back _ x e = absurd cc
 
-in_room : IsTagged 5 (variant room_parts to_room room_fields)
+in_room : IsMessageTagged 5 (variant room_parts to_room room_fields)
 in_room (Room s e got ask) fits = refl
 in_room _ h = absurd cc
 
@@ -218,7 +218,7 @@ claim_back : (m : Msg) (x : (ℕ × (ℕ × List (ℕ × Hold)))) → claim_part
 claim_back (Claim s e tokens) parts same = ap to_claim (sym (same_some _ parts same))
 claim_back _ x e = absurd cc
 
-in_claim : IsTagged 6 (variant claim_parts to_claim claim_fields)
+in_claim : IsMessageTagged 6 (variant claim_parts to_claim claim_fields)
 in_claim (Claim s e tokens) fits = refl
 in_claim _ h = absurd cc
 
@@ -226,7 +226,7 @@ bye_back : (m : Msg) (x : (ℕ × ℕ)) → bye_parts m ≡ Some x → to_bye x 
 bye_back (Bye s e) parts same = ap to_bye (sym (same_some _ parts same))
 bye_back _ x e = absurd cc
 
-in_bye : IsTagged 7 (variant bye_parts to_bye bye_fields)
+in_bye : IsMessageTagged 7 (variant bye_parts to_bye bye_fields)
 in_bye (Bye s e) fits = refl
 in_bye _ h = absurd cc
 
@@ -234,7 +234,7 @@ opened_back : (m : Msg) (x : (Age × (ℕ × ℕ))) → opened_parts m ≡ Some 
 opened_back (Opened age s e) parts same = ap to_opened (sym (same_some _ parts same))
 opened_back _ x e = absurd cc
 
-in_opened : IsTagged 65 (variant opened_parts to_opened opened_fields)
+in_opened : IsMessageTagged 65 (variant opened_parts to_opened opened_fields)
 in_opened (Opened age s e) fits = refl
 in_opened _ h = absurd cc
 
@@ -242,7 +242,7 @@ grant_back : (m : Msg) (x : (ℕ × (ℕ × (ℕ × (ℕ × (Hold × Image))))))
 grant_back (Grant s e x n h image) parts same = ap to_grant (sym (same_some _ parts same))
 grant_back _ x e = absurd cc
 
-in_grant : IsTagged 66 (variant grant_parts to_grant grant_fields)
+in_grant : IsMessageTagged 66 (variant grant_parts to_grant grant_fields)
 in_grant (Grant s e x n h image) fits = refl
 in_grant _ h = absurd cc
 
@@ -250,7 +250,7 @@ recall_back : (m : Msg) (x : (ℕ × (ℕ × (ℕ × (ℕ × Hold))))) → recal
 recall_back (Recall s e x n h) parts same = ap to_recall (sym (same_some _ parts same))
 recall_back _ x e = absurd cc
 
-in_recall : IsTagged 67 (variant recall_parts to_recall recall_fields)
+in_recall : IsMessageTagged 67 (variant recall_parts to_recall recall_fields)
 in_recall (Recall s e x n h) fits = refl
 in_recall _ h = absurd cc
 
@@ -258,7 +258,7 @@ kept_back : (m : Msg) (x : (ℕ × (ℕ × ℕ))) → kept_parts m ≡ Some x �
 kept_back (Kept s e b) parts same = ap to_kept (sym (same_some _ parts same))
 kept_back _ x e = absurd cc
 
-in_kept : IsTagged 68 (variant kept_parts to_kept kept_fields)
+in_kept : IsMessageTagged 68 (variant kept_parts to_kept kept_fields)
 in_kept (Kept s e b) fits = refl
 in_kept _ h = absurd cc
 
@@ -266,7 +266,7 @@ ids_back : (m : Msg) (x : (ℕ × (ℕ × (ℕ × (ℕ × ℕ))))) → ids_parts
 ids_back (Ids s e got n x) parts same = ap to_ids (sym (same_some _ parts same))
 ids_back _ x e = absurd cc
 
-in_ids : IsTagged 69 (variant ids_parts to_ids ids_fields)
+in_ids : IsMessageTagged 69 (variant ids_parts to_ids ids_fields)
 in_ids (Ids s e got n x) fits = refl
 in_ids _ h = absurd cc
 
@@ -274,7 +274,7 @@ no_room_back : (m : Msg) (x : (ℕ × (ℕ × (ℕ × (ℕ × ℕ))))) → no_ro
 no_room_back (NoRoom s e ask live reserved) parts same = ap to_no_room (sym (same_some _ parts same))
 no_room_back _ x e = absurd cc
 
-in_no_room : IsTagged 70 (variant no_room_parts to_no_room no_room_fields)
+in_no_room : IsMessageTagged 70 (variant no_room_parts to_no_room no_room_fields)
 in_no_room (NoRoom s e ask live reserved) fits = refl
 in_no_room _ h = absurd cc
 
@@ -282,7 +282,7 @@ ended_back : (m : Msg) (x : (ℕ × (ℕ × ℕ))) → ended_parts m ≡ Some x 
 ended_back (Ended s low mask) parts same = ap to_ended (sym (same_some _ parts same))
 ended_back _ x e = absurd cc
 
-in_ended : IsTagged 71 (variant ended_parts to_ended ended_fields)
+in_ended : IsMessageTagged 71 (variant ended_parts to_ended ended_fields)
 in_ended (Ended s low mask) fits = refl
 in_ended _ h = absurd cc
 
@@ -290,7 +290,7 @@ restarted_back : (m : Msg) (x : (ℕ × ℕ)) → restarted_parts m ≡ Some x �
 restarted_back (Restarted s e) parts same = ap to_restarted (sym (same_some _ parts same))
 restarted_back _ x e = absurd cc
 
-in_restarted : IsTagged 72 (variant restarted_parts to_restarted restarted_fields)
+in_restarted : IsMessageTagged 72 (variant restarted_parts to_restarted restarted_fields)
 in_restarted (Restarted s e) fits = refl
 in_restarted _ h = absurd cc
 
@@ -298,13 +298,13 @@ old_boot_back : (m : Msg) (x : (Age × Age)) → old_boot_parts m ≡ Some x →
 old_boot_back (OldBoot asked greatest) parts same = ap to_old_boot (sym (same_some _ parts same))
 old_boot_back _ x e = absurd cc
 
-in_old_boot : IsTagged 73 (variant old_boot_parts to_old_boot old_boot_fields)
+in_old_boot : IsMessageTagged 73 (variant old_boot_parts to_old_boot old_boot_fields)
 in_old_boot (OldBoot asked greatest) fits = refl
 in_old_boot _ h = absurd cc
 
-pub form_is : (b : ℕ) → IsFormat (msg_form b)
+pub msg_form_is : (b : ℕ) → IsFormat (msg_form b)
 unfolding msg_form
-form_is b =
+msg_form_is b =
     choice_is (eqb b 8) (variant hello_parts to_hello hello_fields) _ (variant_is hello_parts to_hello hello_fields hello-is (λ x. refl) hello_back) (
     choice_is (eqb b 2) (variant want_parts to_want want_fields) _ (variant_is want_parts to_want want_fields want-is (λ x. refl) want_back) (
     choice_is (eqb b 3) (variant back_parts to_back back_fields) _ (variant_is back_parts to_back back_fields back-is (λ x. refl) back_back) (
@@ -323,27 +323,27 @@ form_is b =
     choice_is (eqb b 73) (variant old_boot_parts to_old_boot old_boot_fields) _ (variant_is old_boot_parts to_old_boot old_boot_fields old_boot-is (λ x. refl) old_boot_back) (
     nothing_is))))))))))))))))
 
-pub form_tags : (b : ℕ) → IsTagged b (msg_form b)
+pub msg_form_tags : (b : ℕ) → IsMessageTagged b (msg_form b)
 unfolding msg_form
-form_tags b =
-    tagged_or b 8 (variant hello_parts to_hello hello_fields) _ in_hello (
-    tagged_or b 2 (variant want_parts to_want want_fields) _ in_want (
-    tagged_or b 3 (variant back_parts to_back back_fields) _ in_back (
-    tagged_or b 4 (variant flush_parts to_flush flush_fields) _ in_flush (
-    tagged_or b 5 (variant room_parts to_room room_fields) _ in_room (
-    tagged_or b 6 (variant claim_parts to_claim claim_fields) _ in_claim (
-    tagged_or b 7 (variant bye_parts to_bye bye_fields) _ in_bye (
-    tagged_or b 65 (variant opened_parts to_opened opened_fields) _ in_opened (
-    tagged_or b 66 (variant grant_parts to_grant grant_fields) _ in_grant (
-    tagged_or b 67 (variant recall_parts to_recall recall_fields) _ in_recall (
-    tagged_or b 68 (variant kept_parts to_kept kept_fields) _ in_kept (
-    tagged_or b 69 (variant ids_parts to_ids ids_fields) _ in_ids (
-    tagged_or b 70 (variant no_room_parts to_no_room no_room_fields) _ in_no_room (
-    tagged_or b 71 (variant ended_parts to_ended ended_fields) _ in_ended (
-    tagged_or b 72 (variant restarted_parts to_restarted restarted_fields) _ in_restarted (
-    tagged_or b 73 (variant old_boot_parts to_old_boot old_boot_fields) _ in_old_boot (
-    in_nothing b))))))))))))))))
+msg_form_tags b =
+    msg_tagged_or b 8 (variant hello_parts to_hello hello_fields) _ in_hello (
+    msg_tagged_or b 2 (variant want_parts to_want want_fields) _ in_want (
+    msg_tagged_or b 3 (variant back_parts to_back back_fields) _ in_back (
+    msg_tagged_or b 4 (variant flush_parts to_flush flush_fields) _ in_flush (
+    msg_tagged_or b 5 (variant room_parts to_room room_fields) _ in_room (
+    msg_tagged_or b 6 (variant claim_parts to_claim claim_fields) _ in_claim (
+    msg_tagged_or b 7 (variant bye_parts to_bye bye_fields) _ in_bye (
+    msg_tagged_or b 65 (variant opened_parts to_opened opened_fields) _ in_opened (
+    msg_tagged_or b 66 (variant grant_parts to_grant grant_fields) _ in_grant (
+    msg_tagged_or b 67 (variant recall_parts to_recall recall_fields) _ in_recall (
+    msg_tagged_or b 68 (variant kept_parts to_kept kept_fields) _ in_kept (
+    msg_tagged_or b 69 (variant ids_parts to_ids ids_fields) _ in_ids (
+    msg_tagged_or b 70 (variant no_room_parts to_no_room no_room_fields) _ in_no_room (
+    msg_tagged_or b 71 (variant ended_parts to_ended ended_fields) _ in_ended (
+    msg_tagged_or b 72 (variant restarted_parts to_restarted restarted_fields) _ in_restarted (
+    msg_tagged_or b 73 (variant old_boot_parts to_old_boot old_boot_fields) _ in_old_boot (
+    msg_in_nothing b))))))))))))))))
 
 pub msg-is : IsFormat msg_code
 unfolding msg_code
-msg-is = tagged_is is_kind_byte msg_byte msg_form form_is form_tags
+msg-is = tagged_is is_kind_byte msg_byte msg_form msg_form_is msg_form_tags

@@ -11,21 +11,21 @@ use Rattle.ec_wire.specs.declared.fault.WireFault.{WireFault}
 use Rattle.ec_wire.specs.declared.fault.WireFault.TheVariants as fault
 use Rattle.ec_wire.specs.declared.msg.Msg.{Msg}
 use Rattle.ec_wire.specs.Codes.{msg_byte, is_kind_byte, msg_form, msg_code, whole, said}
-use Rattle.ec_wire.specs.CodeAnswers.{Answers}
-use Rattle.ec_wire.specs.CodeLaws.{form_is, msg-is}
+use Rattle.ec_wire.specs.CodeAnswers.{ReadsMessage}
+use Rattle.ec_wire.specs.CodeLaws.{msg_form_is, msg-is}
 
 pass : (b : Bool) (x : Result Msg WireFault) (f : WireFault) (m : Msg) → cond b x (Err f) ≡ Ok m → (b ≡ true) × (x ≡ Ok m)
 pass true x f m e = (refl, e)
 pass false x f m e = absurd cc
 
-ended : (b : Bool) (f : WireFault) (l m : Msg) → cond b (Err f) (Ok l) ≡ Ok m → (b ≡ false) × (l ≡ m)
-ended true f l m e = absurd cc
-ended false f l m e = (refl, cc)
+before_end : (b : Bool) (f : WireFault) (l m : Msg) → cond b (Err f) (Ok l) ≡ Ok m → (b ≡ false) × (l ≡ m)
+before_end true f l m e = absurd cc
+before_end false f l m e = (refl, cc)
 
 whole_ok : (len : ℕ) (r : Read Msg) (m : Msg) → whole len r ≡ Ok m → (next : ℕ) × (r ≡ Ok (m, next)) × (len ≤ next)
 whole_ok len (Err e) m h = absurd cc
 whole_ok len (Ok x) m h =
-    let g = ended (nat_lt x.1 len) (fault.Trailing x.1) x.0 m h in
+    let g = before_end (nat_lt x.1 len) (fault.Trailing x.1) x.0 m h in
     (x.1, ap (λ l. Ok (l, x.1)) g.1, ltb-false _ _ g.0)
 
 said_parts : (bytes : List ℕ) (m : Msg) → said bytes ≡ Ok m
@@ -59,14 +59,14 @@ said_again m fits =
     let bytes : List ℕ = b ∷ fields in
     let f = and_parts (nat_lt b 256 && is_kind_byte b) ((msg_form b).fits m) fits in
     let known = (and_parts (nat_lt b 256) (is_kind_byte b) f.0).1 in
-    let read : (msg_form b).read bytes 1 ≡ Ok (m, 1 + length fields) = (form_is b).again bytes 1 m f.1 ([], sym (append-nil fields)) in
+    let read : (msg_form b).read bytes 1 ≡ Ok (m, 1 + length fields) = (msg_form_is b).again bytes 1 m f.1 ([], sym (append-nil fields)) in
     let some : nat_lt 0 (length bytes) ≡ true = lt-ltb _ _ (omega arith) in
     let over : nat_lt (1 + length fields) (length bytes) ≡ false = le-ltb _ _ (omega arith) in
     rw (some, known, read, over) refl
 
-pub is_found : (bytes : List ℕ) (r : Result Msg WireFault) → AreBytes bytes → Answers r (said bytes) → IfOk r (λ m. (msg_code.fits m ≡ true) × (bytes ≡ msg_code.spell m))
+pub is_found : (bytes : List ℕ) (r : Result Msg WireFault) → AreBytes bytes → ReadsMessage r (said bytes) → IfOk r (λ m. (msg_code.fits m ≡ true) × (bytes ≡ msg_code.spell m))
 is_found bytes (Ok m) ok h = said_ok bytes m ok h
 is_found bytes (Err e) ok h = tt
 
-pub is_only : (bytes : List ℕ) (r : Result Msg WireFault) → Answers r (said bytes) → (m : Msg) → msg_code.fits m ≡ true → bytes ≡ msg_code.spell m → Answers r (Ok m)
-is_only bytes r h m fits e = subst (λ x. Answers r x) (ap said e ∙ said_again m fits) h
+pub is_only : (bytes : List ℕ) (r : Result Msg WireFault) → ReadsMessage r (said bytes) → (m : Msg) → msg_code.fits m ≡ true → bytes ≡ msg_code.spell m → ReadsMessage r (Ok m)
+is_only bytes r h m fits e = subst (λ x. ReadsMessage r x) (ap said e ∙ said_again m fits) h

@@ -4,7 +4,7 @@ ghost use Rattle.ec_codes.specs.Formats.{variant};
 ghost use Rattle.ec_codes.specs.Readers.{Reads};
 ghost use Rattle.ec_wire.specs.Messages.{is_sound};
 ghost use Rattle.ec_wire.specs.Codes.{is_kind_byte, msg_form, msg_code, said};
-ghost use Rattle.ec_wire.specs.CodeAnswers.{Answers};
+ghost use Rattle.ec_wire.specs.CodeAnswers.{ReadsMessage};
 ghost use Rattle.ec_wire.specs.Codes.{hello_fields, want_fields, back_fields, flush_fields, room_fields, claim_fields, bye_fields, opened_fields, grant_fields, recall_fields, kept_fields, ids_fields, no_room_fields, ended_fields, restarted_fields, old_boot_fields};
 ghost use Rattle.ec_wire.specs.Codes.{hello_parts, want_parts, back_parts, flush_parts, room_parts, claim_parts, bye_parts, opened_parts, grant_parts, recall_parts, kept_parts, ids_parts, no_room_parts, ended_parts, restarted_parts, old_boot_parts};
 ghost use Rattle.ec_wire.specs.Codes.{to_hello, to_want, to_back, to_flush, to_room, to_claim, to_bye, to_opened, to_grant, to_recall, to_kept, to_ids, to_no_room, to_ended, to_restarted, to_old_boot};
@@ -227,16 +227,16 @@ pub fn decode(alloc: Global, bytes: &[u8]) -> Result<Msg, WireFault>
     ensures sound { IfOk result (λ m. is_sound m ≡ true) }
     ensures found { IfOk result (λ m. (msg_code.fits m ≡ true) × (bytes.now ≡ msg_code.spell m)) }
     // A message with this code is read, unless memory runs out.
-    ensures only { (m : Msg) → msg_code.fits m ≡ true → bytes.now ≡ msg_code.spell m → Answers result (Ok m) }
+    ensures only { (m : Msg) → msg_code.fits m ≡ true → bytes.now ≡ msg_code.spell m → ReadsMessage result (Ok m) }
     // Which fault it is.
-    ensures exact { Answers result (said bytes.now) }
+    ensures exact { ReadsMessage result (said bytes.now) }
 {
     read_whole(alloc, bytes)
 }
 
 #[tactic(auto, unfolding(crate::specs::Codes::said))]
 fn read_whole(alloc: Global, bytes: &[u8]) -> Result<Msg, WireFault>
-    ensures { Answers result (said bytes.now) }
+    ensures { ReadsMessage result (said bytes.now) }
 {
     if bytes.is_empty() {
         return Err(WireFault::Short(0));

@@ -12,7 +12,7 @@ use Rattle.ec_protocol.specs.declared.world.WorldFault.TheVariants as fault
 use Rattle.ec_protocol.specs.Clerk.{Doing}
 use Rattle.ec_protocol.specs.Clerk as clerk
 use Rattle.ec_protocol.specs.World.{Moving, moving, fails, show_line, with_world, come_out, clerk_does, is_answer_to, show_waits, add_call, call_on, start_and_call, call, boot}
-use Rattle.ec_world.specs.Calls.{begun}
+use Rattle.ec_world.specs.Calls.{call_begun}
 
 abbrev pub ended : Clerk → List Out → Doing
 ended k outs = record { clerk = k; outs = outs; spent = None }
@@ -29,7 +29,7 @@ waits_put : (b : Bool) (c : ℕ) (k : Clerk) (s : Shown) (w : World) → with_wo
 waits_put true c k s w = refl
 waits_put false c k s w = refl
 
-pub call_on_is : (c line : ℕ) (cl : Call) (before outs : List Out) (k after : Clerk) (w : World) → clerk.begin cl k ≡ ended after outs → call_on c line cl before k w ≡ begun c (k.calls + 1) line cl before outs (moving (with_clerk c after w))
+pub call_on_is : (c line : ℕ) (cl : Call) (before outs : List Out) (k after : Clerk) (w : World) → clerk.begin cl k ≡ ended after outs → call_on c line cl before k w ≡ call_begun c (k.calls + 1) line cl before outs (moving (with_clerk c after w))
 call_on_is c line cl before outs k after w is =
     let n = k.calls + 1 in
     let on : Doing → Moving = λ d. elim d.spent [

@@ -12,8 +12,8 @@ use Rattle.ec_protocol.specs.Clerk.{Doing}
 use Rattle.ec_protocol.specs.Clerk as clerk
 use Rattle.ec_protocol.specs.World as machine
 use Rattle.ec_protocol.specs.World.{Fate, Moving, moving, come_out, clerk_does, is_for_server, settled, to_clerk, deliver, call}
-use Rattle.ec_world.specs.Calls.{begun}
-use Rattle.ec_running.specs.Running.{Steps, Stays, Starts}
+use Rattle.ec_world.specs.Calls.{call_begun}
+use Rattle.ec_running.specs.Running.{Steps, StaysAbsent, StartsRunning}
 use Rattle.ec_world.specs.Sending.{IsFor}
 use Rattle.ec_world.proofs.Calls.{does_is, call_runs, call_on_is, start_is, with_boot}
 use Rattle.ec_world.proofs.Pooled.{deliver_clerk}
@@ -29,15 +29,15 @@ stepped f c outs cs w s =
 
 -- Calls.
 
-pub called : (c line n : ℕ) (cl : Call) (outs : List Out) (cs : Table Clerk) (w : World) (s : Steps (clerk.begin cl) c w.clerks cs outs) → n ≡ s.before.calls + 1 → call c line cl w ≡ begun c n line cl [] outs (moving (with_clerks cs w))
+pub called : (c line n : ℕ) (cl : Call) (outs : List Out) (cs : Table Clerk) (w : World) (s : Steps (clerk.begin cl) c w.clerks cs outs) → n ≡ s.before.calls + 1 → call c line cl w ≡ call_begun c n line cl [] outs (moving (with_clerks cs w))
 called c line n cl outs cs w s number =
-    let on : Table Clerk → Moving = λ t. begun c (s.before.calls + 1) line cl [] outs (moving (with_clerks t w)) in
-    let by : ℕ → Moving = λ m. begun c m line cl [] outs (moving (with_clerks cs w)) in
+    let on : Table Clerk → Moving = λ t. call_begun c (s.before.calls + 1) line cl [] outs (moving (with_clerks t w)) in
+    let by : ℕ → Moving = λ m. call_begun c m line cl [] outs (moving (with_clerks cs w)) in
     call_runs c line cl s.before w s.runs ∙ call_on_is c line cl [] outs s.before s.after w s.does ∙ ap on (sym s.put_is) ∙ ap by (sym number)
 
-pub started : (c line b n : ℕ) (cl : Call) (before outs : List Out) (cs : Table Clerk) (w : World) → b ≡ machine.boot c w + 1 → Starts cl c b w.clerks cs n before outs → machine.start_and_call c line cl w ≡ begun c n line cl before outs (moving (record w { clerks = cs; boots = put c b w.boots }))
+pub started : (c line b n : ℕ) (cl : Call) (before outs : List Out) (cs : Table Clerk) (w : World) → b ≡ machine.boot c w + 1 → StartsRunning cl c b w.clerks cs n before outs → machine.start_and_call c line cl w ≡ call_begun c n line cl before outs (moving (record w { clerks = cs; boots = put c b w.boots }))
 started c line b n cl before outs cs w next s =
-    let on : ℕ → Table Clerk → Moving = λ m t. begun c m line cl before outs (moving (record w { clerks = t; boots = put c b w.boots })) in
+    let on : ℕ → Table Clerk → Moving = λ m t. call_begun c m line cl before outs (moving (record w { clerks = t; boots = put c b w.boots })) in
     start_is c line b cl before s.first w next s.starts
     ∙ call_on_is c line cl before outs s.first s.joins.after (with_boot c b w) s.joins.does
     ∙ ap (on (s.first.calls + 1)) (sym s.joins.put_is)
@@ -58,7 +58,7 @@ delivered fate n s msg outs cs p w f is copy steps settles =
     ∙ stepped (clerk.take msg) s.clerk outs cs (settled n w) steps
     ∙ ap on settles
 
-pub vanished : (fate : Fate) (n : ℕ) (s : Sent) (cs : Table Clerk) (p : Pooled) (w : World) → IsFor false n w.pool → at n w.pool ≡ Some s → Stays s.clerk w.clerks cs → settled n w ≡ with_pool p w → deliver fate n w ≡ moving (with_pool p (with_clerks cs w))
+pub vanished : (fate : Fate) (n : ℕ) (s : Sent) (cs : Table Clerk) (p : Pooled) (w : World) → IsFor false n w.pool → at n w.pool ≡ Some s → StaysAbsent s.clerk w.clerks cs → settled n w ≡ with_pool p w → deliver fate n w ≡ moving (with_pool p (with_clerks cs w))
 vanished fate n s cs p w f is stays settles =
     let on : Table Clerk → Moving = λ t. moving (with_pool p (with_clerks t w)) in
     deliver_clerk fate n s w is (is_for_clerk n s false w.pool f is)

@@ -20,7 +20,7 @@ use Rattle.ec_world.specs.Cutting.{left_of}
 use Rattle.ec_world.specs.Laws.{in_step_keeps}
 use Rattle.ec_world.specs.Serving.{left_in, stopped_in, with_durable}
 use Rattle.ec_world.specs.StepEnds.{under}
-use Rattle.ec_world.specs.Worlds.{view_of, server_of, Stands, IsInStep, Keeps}
+use Rattle.ec_world.specs.Worlds.{view_of, server_of, ServerStands, IsInStep, KeepsServer}
 use Rattle.ec_world.specs.declared.world.World.{World}
 
 -- the records, with this one more where it's there
@@ -73,6 +73,6 @@ abbrev pub keeping : Bool → Option Noted → World → World
 keeping there shows w = record w { unshown = unshown_of there shows w.unshown }
 
 -- it's in step: no server runs
-pub stopped_in_step : (tells : Type 0) (now : View) (there : Bool) (shows : Option Noted) (cut mid new : World) → cut.server ≡ None → (tells → IsHeld now cut.store) → mid ≡ keeping there shows cut → Keeps mid new → IsInStep tells now new
+pub stopped_in_step : (tells : Type 0) (now : View) (there : Bool) (shows : Option Noted) (cut mid new : World) → cut.server ≡ None → (tells → IsHeld now cut.store) → mid ≡ keeping there shows cut → KeepsServer mid new → IsInStep tells now new
 stopped_in_step tells now there shows cut mid new none held is same =
-    in_step_keeps tells now mid new same (subst (λ (w : World). IsInStep tells now w) (sym is) (record { server = subst (λ (o : Option Server). Stands (state_of cut.store) o) (sym none) tt; disk = held }))
+    in_step_keeps tells now mid new same (subst (λ (w : World). IsInStep tells now w) (sym is) (record { server = subst (λ (o : Option Server). ServerStands (state_of cut.store) o) (sym none) tt; disk = held }))

@@ -27,8 +27,8 @@ use Rattle.ec_marking.specs.Keeping.{Unchanged}
 use Rattle.ec_marking.specs.Held.{held_stands}
 use Rattle.ec_world.specs.Laws.{in_step_stands}
 use Rattle.ec_world.specs.Serving.{serves, Breaks}
-use Rattle.ec_world.specs.StepEnds.{Fated, Refuses, IsLeft, as_before, under}
-use Rattle.ec_world.specs.Worlds.{view_of, server_of, Stands, IsInStep, Keeps}
+use Rattle.ec_world.specs.StepEnds.{Fated, RefusesEvent, IsLeft, as_before, under}
+use Rattle.ec_world.specs.Worlds.{view_of, server_of, ServerStands, IsInStep, KeepsServer}
 use Rattle.ec_running.specs.declared.fault.StepFault.{StepFault}
 use Rattle.ec_running.specs.declared.fault.StepFault.TheVariants as step_fault
 use Rattle.ec_world.specs.declared.world.World.{World}
@@ -36,14 +36,14 @@ use Rattle.ec_marking.proofs.Runs.{run_same}
 use Rattle.ec_world.proofs.Served.{deliver_server}
 
 -- A step that has no effect: the disk isn't called.
-pub runs_to_nothing : (tells : Type 0) (old new : World) (counts : Counts) (steps : Fate → Moving) → steps runs ≡ nothing (view_of old) → under new ≡ nothing (view_of old) → Keeps old new
+pub runs_to_nothing : (tells : Type 0) (old new : World) (counts : Counts) (steps : Fate → Moving) → steps runs ≡ nothing (view_of old) → under new ≡ nothing (view_of old) → KeepsServer old new
     → Fated tells (state_of old.store) (view_of old).shown counts counts old.choice steps (under new)
 runs_to_nothing tells old new counts steps is shows same = (runs, run_same (state_of old.store) (state_of new.store) counts (ap state_of same.store), λ told. is ∙ sym shows, λ told. tt)
 
 -- the same, where the running server was looked at
-pub runs_to_nothing_on : (tells : Type 0) (old new : World) (v : Server) (counts : Counts) (steps : Fate → Moving) → old.server ≡ Some v → steps runs ≡ nothing (view_of old) → under new ≡ nothing (view_of (record old { server = Some v })) → Keeps (record old { server = Some v }) new
+pub runs_to_nothing_on : (tells : Type 0) (old new : World) (v : Server) (counts : Counts) (steps : Fate → Moving) → old.server ≡ Some v → steps runs ≡ nothing (view_of old) → under new ≡ nothing (view_of (record old { server = Some v })) → KeepsServer (record old { server = Some v }) new
     → Fated tells (state_of old.store) (view_of old).shown counts counts old.choice steps (under new)
-runs_to_nothing_on tells old new v counts steps running is shows same = runs_to_nothing tells old new counts steps is (shows ∙ ap (λ (x : World). nothing (view_of x)) as_was) (subst (λ (x : World). Keeps x new) as_was same)
+runs_to_nothing_on tells old new v counts steps running is shows same = runs_to_nothing tells old new counts steps is (shows ∙ ap (λ (x : World). nothing (view_of x)) as_was) (subst (λ (x : World). KeepsServer x new) as_was same)
   where
     as_was : record old { server = Some v } ≡ old
     as_was = ap (λ (o : Option Server). record old { server = o }) (sym running)
@@ -106,8 +106,8 @@ served_spends done n u is =
     ap (λ (o : Option Counter). (by o).fault) is
 
 pub spends : (tells : Type 0) (now : View) (n : Counter) (done : Serving) (m : Moving) (u : Moved) (old new : World) (v v2 : Server) → m ≡ served runs done u → Unchanged tells done n old.store new.store now
-    → standing (state_of new.store) v2 ≡ standing (state_of old.store) v → old.server ≡ Some v → new ≡ record old { store = new.store; server = Some v2 } → Stands (state_of new.store) (Some v2)
-    → Refuses (fault.Spent n) m (view_of old) (view_of new) (IsInStep tells now new)
+    → standing (state_of new.store) v2 ≡ standing (state_of old.store) v → old.server ≡ Some v → new ≡ record old { store = new.store; server = Some v2 } → ServerStands (state_of new.store) (Some v2)
+    → RefusesEvent (fault.Spent n) m (view_of old) (view_of new) (IsInStep tells now new)
 spends tells now n done m u old new v v2 is unchanged same running new_is stands =
     (ap (λ (x : Moving). x.fault) is ∙ served_spends done n u unchanged.spent, same_view, in_step)
   where
@@ -141,7 +141,7 @@ nothing_left tells now w m image h told left = as_before (in_step_stands tells n
 pub spent_left : (tells : Type 0) (now : View) (n : Counter) (done : Serving) (old new : Store) (m : Moving) (image : List ℕ) → Unchanged tells done n old new now → tells → now.may_leave image → IsLeft (state_of old) m image
 spent_left tells now n done old new m image h told left = as_before (subst (λ (s : Store). StandsFor image (state_of s)) h.store (held_stands now new (h.held told) image left))
 
-pub breaks_refuse : (f : StepFault) (m : Moving) (old new : Moved) (S : Type 0) → Breaks f → Refuses (of_step f) m old new S
+pub breaks_refuse : (f : StepFault) (m : Moving) (old new : Moved) (S : Type 0) → Breaks f → RefusesEvent (of_step f) m old new S
 breaks_refuse step_fault.DiskFailed m old new S b = tt
 breaks_refuse step_fault.NoMemory m old new S b = tt
 breaks_refuse (step_fault.Spent n) m old new S b = absurd b

@@ -35,7 +35,7 @@ use Rattle.ec_marking.specs.Marks.{IsMark, gone}
 use Rattle.ec_world.specs.Serving.{serves, IsDoneBy, CameTo, FateIn, Finishes, ArmsBehind, Breaks, FailsSince, stopped_in, with_durable}
 use Rattle.ec_world.specs.Steps.{IsShown}
 use Rattle.ec_world.specs.StepEnds.{IsTold, Fated, IsLeft, as_before, as_behind, under}
-use Rattle.ec_world.specs.Worlds.{view_of, server_of, Stands, IsInStep, Keeps}
+use Rattle.ec_world.specs.Worlds.{view_of, server_of, ServerStands, IsInStep, KeepsServer}
 use Rattle.ec_running.specs.declared.fault.StepFault.{StepFault}
 use Rattle.ec_running.specs.declared.fault.StepFault.TheVariants as step_fault
 use Rattle.ec_marking.specs.declared.keeping.Came.{Came}
@@ -68,7 +68,7 @@ done_shows tells done d s w now served' mark none h = go w.server refl h
         ∙ ap (λ (o : Option State). on (moving (with_server w o))) (ap (server_of (state_of w.store)) (sym is))
         ∙ ap on (sym (fresh w none))
 
-pub done_in_step : (tells : Type 0) (done : Serving) (d : Durable) (old new : World) (now : View) (served' : Served) (mark : Option Mark) → Stands (state_of old.store) old.server → IsDoneBy tells done d old.records.items old.server old.store now served' mark → Keeps old new → IsInStep tells now new
+pub done_in_step : (tells : Type 0) (done : Serving) (d : Durable) (old new : World) (now : View) (served' : Served) (mark : Option Mark) → ServerStands (state_of old.store) old.server → IsDoneBy tells done d old.records.items old.server old.store now served' mark → KeepsServer old new → IsInStep tells now new
 done_in_step tells done d old new now served' mark stands h same = in_step_keeps tells now old new same (record { server = stands; disk = go old.server h })
   where
     go : (o : Option Server) → IsDoneBy tells done d old.records.items o old.store now served' mark → tells → IsHeld now old.store
@@ -200,8 +200,8 @@ pub done_finishes : (tells : Type 0) (done : Serving) (d : Durable) (s : Option 
 done_finishes tells done d s w new now x served' mark is none h shown =
     (runs, λ stop. subst (λ (y : Came Served). HasStoppedIn y) is stop, λ told. done_shows tells done d s w now served' mark none (subst (CameTo tells done d w now) is h) ∙ sym shown, λ told. tt)
 
-pub done_steps : (tells : Type 0) (done : Serving) (d : Durable) (old new : World) (now : View) (x : Came Served) (served' : Served) (mark : Option Mark) → x ≡ came.Done served' mark → Stands (state_of old.store) old.server → CameTo tells done d old now x
-    → Keeps old new → IsInStep tells now new
+pub done_steps : (tells : Type 0) (done : Serving) (d : Durable) (old new : World) (now : View) (x : Came Served) (served' : Served) (mark : Option Mark) → x ≡ came.Done served' mark → ServerStands (state_of old.store) old.server → CameTo tells done d old now x
+    → KeepsServer old new → IsInStep tells now new
 done_steps tells done d old new now x served' mark is stands h same = done_in_step tells done d old new now served' mark stands (subst (CameTo tells done d old now) is h) same
 
 pub done_left : (tells : Type 0) (done : Serving) (d : Durable) (s : Option State) (w : World) (now : View) (x : Came Served) (served' : Served) (mark : Option Mark) (image : List ℕ) → x ≡ came.Done served' mark → CameTo tells done d w now x → tells → now.may_leave image

@@ -25,11 +25,11 @@ use Rattle.ec_store.specs.declared.store.Store.{Store}
 use Rattle.ec_trace.specs.declared.Trace.{Trace}
 use Rattle.ec_marking.specs.Keeping.{IsDone, CameOf, Unchanged, IfDone}
 use Rattle.ec_marking.specs.Held.{held_stands}
-use Rattle.ec_marking.specs.Marks.{Marked, MarkOf}
-use Rattle.ec_world.specs.Opening.{Unread, Starts, Begins, EndsBy, EndsOne, EndsWith, KeptBy, Unstarted, IsOfDisk}
+use Rattle.ec_marking.specs.Marks.{RecordIsMarked as Marked, MarkOf}
+use Rattle.ec_world.specs.Opening.{Unread, Starts, StartsServer, EndsBy, EndsOne, EndsWith, KeptBy, Unstarted, IsOfDisk}
 use Rattle.ec_world.specs.Steps.{Opens}
 use Rattle.ec_world.specs.StepEnds.{Unopened}
-use Rattle.ec_world.specs.Worlds.{view_of as whole, Stands, IsInStep}
+use Rattle.ec_world.specs.Worlds.{view_of as whole, ServerStands, IsInStep}
 use Rattle.ec_marking.specs.declared.keeping.Came.{Came}
 use Rattle.ec_marking.specs.declared.keeping.Came.TheVariants as came
 use Rattle.ec_marking.specs.declared.marks.Mark.{Mark}
@@ -53,28 +53,28 @@ start_done tells d before server store now served mark none h =
     }
 
 module _ (tells : Type 0) (d : Durable) (before : List Record) (store : Store) (now : View) (r : Made) where
-  pub begins_ok : (o : Came (Code × Served)) → before ≡ [] → CameOf (λ made. IsDone tells (machine.start d) d before made.0 store now made.1) tells (machine.start d) d before now o → Begins o r → IfOk r (λ made. Starts (machine.start d) (standing (view_of store) made.0) made.1.items)
+  pub begins_ok : (o : Came (Code × Served)) → before ≡ [] → CameOf (λ made. IsDone tells (machine.start d) d before made.0 store now made.1) tells (machine.start d) d before now o → StartsServer o r → IfOk r (λ made. Starts (machine.start d) (standing (view_of store) made.0) made.1.items)
   begins_ok (came.Done made None) none h is = absurd is
   begins_ok (came.Done made (Some mark)) none h is = subst (λ (x : Made). IfOk x (λ made. Starts (machine.start d) (standing (view_of store) made.0) made.1.items)) (sym is) (start_done tells d before made.0 store now made.1 mark none h)
   begins_ok (came.Stopped mark) none h is = subst (λ (x : Made). IfOk x (λ made. Starts (machine.start d) (standing (view_of store) made.0) made.1.items)) (sym is) tt
   begins_ok came.DiskFailed none h is = subst (λ (x : Made). IfOk x (λ made. Starts (machine.start d) (standing (view_of store) made.0) made.1.items)) (sym is) tt
   begins_ok came.NoMemory none h is = subst (λ (x : Made). IfOk x (λ made. Starts (machine.start d) (standing (view_of store) made.0) made.1.items)) (sym is) tt
 
-  pub begins_held : (o : Came (Code × Served)) → CameOf (λ made. IsDone tells (machine.start d) d before made.0 store now made.1) tells (machine.start d) d before now o → Begins o r → OnOk r (tells → IsHeld now store)
+  pub begins_held : (o : Came (Code × Served)) → CameOf (λ made. IsDone tells (machine.start d) d before made.0 store now made.1) tells (machine.start d) d before now o → StartsServer o r → OnOk r (tells → IsHeld now store)
   begins_held (came.Done made None) h is = absurd is
   begins_held (came.Done made (Some mark)) h is = subst (λ (x : Made). OnOk x (tells → IsHeld now store)) (sym is) h.held
   begins_held (came.Stopped mark) h is = subst (λ (x : Made). OnOk x (tells → IsHeld now store)) (sym is) tt
   begins_held came.DiskFailed h is = subst (λ (x : Made). OnOk x (tells → IsHeld now store)) (sym is) tt
   begins_held came.NoMemory h is = subst (λ (x : Made). OnOk x (tells → IsHeld now store)) (sym is) tt
 
-pub begins_stands : (d : Durable) (r : Made) (o : Came (Code × Served)) → IfDone o (λ made. StandsOn d made.0) → Begins o r → IfOk r (λ made. StandsOn d made.0)
+pub begins_stands : (d : Durable) (r : Made) (o : Came (Code × Served)) → IfDone o (λ made. StandsOn d made.0) → StartsServer o r → IfOk r (λ made. StandsOn d made.0)
 begins_stands d r (came.Done made None) h is = absurd is
 begins_stands d r (came.Done made (Some mark)) h is = subst (λ (x : Made). IfOk x (λ made. StandsOn d made.0)) (sym is) h
 begins_stands d r (came.Stopped mark) h is = subst (λ (x : Made). IfOk x (λ made. StandsOn d made.0)) (sym is) tt
 begins_stands d r came.DiskFailed h is = subst (λ (x : Made). IfOk x (λ made. StandsOn d made.0)) (sym is) tt
 begins_stands d r came.NoMemory h is = subst (λ (x : Made). IfOk x (λ made. StandsOn d made.0)) (sym is) tt
 
-pub begins_err : (tells : Type 0) (left : List ℕ → Type 0) (d : Durable) (r : Made) (o : Came (Code × Served)) → Begins o r → IfErr r (λ f. Unstarted f tells left d)
+pub begins_err : (tells : Type 0) (left : List ℕ → Type 0) (d : Durable) (r : Made) (o : Came (Code × Served)) → StartsServer o r → IfErr r (λ f. Unstarted f tells left d)
 begins_err tells left d r (came.Done made None) is = absurd is
 begins_err tells left d r (came.Done made (Some mark)) is = subst (λ (x : Made). IfErr x (λ f. Unstarted f tells left d)) (sym is) tt
 begins_err tells left d r (came.Stopped mark) is = subst (λ (x : Made). IfErr x (λ f. Unstarted f tells left d)) (sym is) tt
@@ -88,7 +88,7 @@ wants_not : ◌≡◌ {A = Made} (Err fault.NoMemory) (Err fault.DiskFailed) →
 wants_not e = cc
 
 -- the disk failed only where the step says so
-pub begins_failed : (r : Made) (o : Came (Code × Served)) → Begins o r → r ≡ Err fault.DiskFailed → o ≡ came.DiskFailed
+pub begins_failed : (r : Made) (o : Came (Code × Served)) → StartsServer o r → r ≡ Err fault.DiskFailed → o ≡ came.DiskFailed
 begins_failed r (came.Done made None) is e = absurd is
 begins_failed r (came.Done made (Some mark)) is e = absurd (made_not _ (sym is ∙ e))
 begins_failed r (came.Stopped mark) is e = absurd (wants_not (sym is ∙ e))
@@ -174,7 +174,7 @@ of_disk fault.NoSuchMsg tells left d h = absurd h
 pub in_step_of : (tells : Type 0) (now : View) (w : Whole) (store : Store) (server : Code) → w.store ≡ store → w.server ≡ Some server → StandsOn (view_of store) server → (tells → IsHeld now store) → IsInStep tells now w
 in_step_of tells now w store server one two stands held = record {
   server =
-      let to : Store → Option Code → Type 0 = λ s v. Stands (view_of s) v in
+      let to : Store → Option Code → Type 0 = λ s v. ServerStands (view_of s) v in
       subst (λ (s : Store). to s w.server) (sym one) (subst (λ (v : Option Code). to store v) (sym two) stands);
   disk = λ told. subst (λ (s : Store). IsHeld now s) (sym one) (held told);
 }

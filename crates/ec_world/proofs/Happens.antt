@@ -14,8 +14,8 @@ use Rattle.ec_store.specs.Store.{IsHeld, view_of as state_of}
 use Rattle.ec_store.specs.declared.store.Store.{Store}
 use Rattle.ec_running.specs.Faults.{of_step}
 use Rattle.ec_marking.specs.KeptRuns.{HasRun}
-use Rattle.ec_world.specs.StepEnds.{under, Fated, Refuses, Declines, behind_arm, CountsOf, IsLeft}
-use Rattle.ec_world.specs.Worlds.{view_of, Stands, IsInStep}
+use Rattle.ec_world.specs.StepEnds.{under, Fated, RefusesEvent, Declines, behind_arm, CountsOf, IsLeft}
+use Rattle.ec_world.specs.Worlds.{view_of, ServerStands, IsInStep}
 use Rattle.ec_running.specs.declared.fault.StepFault.{StepFault}
 use Rattle.ec_running.specs.declared.fault.StepFault.TheVariants as step
 use Rattle.ec_world.specs.declared.world.World.{World}
@@ -41,9 +41,9 @@ pub happens : {A : Type 0} (r : Result A StepFault) (tells : Type 0) (old new : 
     → OnOk r (Fated tells w.durable w.shown (behind_arm e old) new w.choice (λ fate. happen fate e w) m)
 happens r tells old new e this w m is h = subst (λ (x : Event). OnOk r (Fated tells w.durable w.shown (behind_arm x old) new w.choice (λ fate. happen fate x w) m)) (sym is) h
 
-pub acts_not : {A : Type 0} (r : Result A StepFault) (e this : Event) (old new : State) (S : Type 0) → e ≡ this → IfErr r (λ why. Declines why (happen runs this old) old new) → S → IfErr r (λ why. Refuses (of_step why) (happen runs e old) old new S)
+pub acts_not : {A : Type 0} (r : Result A StepFault) (e this : Event) (old new : State) (S : Type 0) → e ≡ this → IfErr r (λ why. Declines why (happen runs this old) old new) → S → IfErr r (λ why. RefusesEvent (of_step why) (happen runs e old) old new S)
 acts_not r e this old new S is h s =
-    subst (λ (x : Event). IfErr r (λ why. Refuses (of_step why) (happen runs x old) old new S)) (sym is) (refuses r (happen runs this old) old new S h s)
+    subst (λ (x : Event). IfErr r (λ why. RefusesEvent (of_step why) (happen runs x old) old new S)) (sym is) (refuses r (happen runs this old) old new S h s)
 
 pub leaves : {A : Type 0} (r : Result A StepFault) (tells : Type 0) (may_leave : List ℕ → Type 0) (before : Durable) (e this : Event) (w : State) → e ≡ this → IfErr r (λ why. tells → (image : List ℕ) → may_leave image → IsLeft before (happen runs this w) image) → IfErr r (λ why. tells → (image : List ℕ) → may_leave image → IsLeft before (happen runs e w) image)
 leaves r tells may_leave before e this w is h =
@@ -55,8 +55,8 @@ pub out_of_memory : {A : Type 0} (r : Result A StepFault) (P : Type 0) → r ≡
 out_of_memory (Ok x) P is = cc
 out_of_memory (Err f) P is = tt
 
-pub refuses_nothing : {A : Type 0} (r : Result A StepFault) (m : Moving) (old new : State) (S : Type 0) → r ≡ Err step.NoMemory → IfErr r (λ why. Refuses (of_step why) m old new S)
-refuses_nothing {A = A} r m old new S is = subst (λ (x : Result A StepFault). IfErr x (λ why. Refuses (of_step why) m old new S)) (sym is) tt
+pub refuses_nothing : {A : Type 0} (r : Result A StepFault) (m : Moving) (old new : State) (S : Type 0) → r ≡ Err step.NoMemory → IfErr r (λ why. RefusesEvent (of_step why) m old new S)
+refuses_nothing {A = A} r m old new S is = subst (λ (x : Result A StepFault). IfErr x (λ why. RefusesEvent (of_step why) m old new S)) (sym is) tt
 
 pub not_failed_there : {A : Type 0} (r : Result A StepFault) → r ≡ Err step.NoMemory → r ≡ Err step.DiskFailed → ⊥
 not_failed_there r is failed = cc
@@ -65,7 +65,7 @@ not_failed_there r is failed = cc
 
 pub stopped_in_step : (tells : Type 0) (now : View) (old new : World) → new.store ≡ old.store → new.server ≡ None → IsInStep tells now old → IsInStep tells now new
 stopped_in_step tells now old new same stopped h = record {
-  server = subst (λ (v : Option Server). Stands (state_of new.store) v) (sym stopped) tt;
+  server = subst (λ (v : Option Server). ServerStands (state_of new.store) v) (sym stopped) tt;
   disk = λ told. subst (λ (s : Store). IsHeld now s) (sym same) (h.disk told);
 }
 

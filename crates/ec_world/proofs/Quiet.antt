@@ -13,8 +13,8 @@ use Rattle.ec_protocol.specs.declared.world.WorldFault.{WorldFault}
 use Rattle.ec_protocol.specs.declared.world.WorldFault.TheVariants as world
 use Rattle.ec_running.specs.Faults.{of_step}
 use Rattle.ec_world.specs.Laws.{in_step_keeps, in_step_stands}
-use Rattle.ec_world.specs.StepEnds.{Fated, Refuses, Declines, IsLeft, as_before}
-use Rattle.ec_world.specs.Worlds.{view_of, IsInStep, Keeps}
+use Rattle.ec_world.specs.StepEnds.{Fated, RefusesEvent, Declines, IsLeft, as_before}
+use Rattle.ec_world.specs.Worlds.{view_of, IsInStep, KeepsServer}
 use Rattle.ec_running.specs.declared.fault.StepFault.{StepFault}
 use Rattle.ec_running.specs.declared.fault.StepFault.TheVariants as step
 use Rattle.ec_world.specs.declared.world.World.{World}
@@ -25,18 +25,18 @@ pub fated : {A : Type 0} (r : Result A StepFault) (tells : Type 0) (before : Dur
 fated (Ok x) tells before lines counts ch steps m same is = (runs, run_same before m.world.durable counts same, λ told. is, λ told. tt)
 fated (Err f) tells before lines counts ch steps m same is = tt
 
-pub in_step : {A : Type 0} (r : Result A StepFault) (tells : Type 0) (now : View) (old new : World) → Keeps old new → IsInStep tells now old → OnOk r (IsInStep tells now new)
+pub in_step : {A : Type 0} (r : Result A StepFault) (tells : Type 0) (now : View) (old new : World) → KeepsServer old new → IsInStep tells now old → OnOk r (IsInStep tells now new)
 in_step (Ok x) tells now old new same h = in_step_keeps tells now old new same h
 in_step (Err f) tells now old new same h = tt
 
-refuses_by : (why : StepFault) (m : Moving) (old new : State) (S : Type 0) → Declines why m old new → S → Refuses (of_step why) m old new S
+refuses_by : (why : StepFault) (m : Moving) (old new : State) (S : Type 0) → Declines why m old new → S → RefusesEvent (of_step why) m old new S
 refuses_by step.DiskFailed m old new S d s = absurd d
 refuses_by (step.Spent n) m old new S d s = (d.0, d.1, s)
 refuses_by step.NoSuchOp m old new S d s = (d.0, d.1, s)
 refuses_by step.NoSuchMsg m old new S d s = (d.0, d.1, s)
 refuses_by step.NoMemory m old new S d s = tt
 
-pub refuses : {A : Type 0} (r : Result A StepFault) (m : Moving) (old new : State) (S : Type 0) → IfErr r (λ why. Declines why m old new) → S → IfErr r (λ why. Refuses (of_step why) m old new S)
+pub refuses : {A : Type 0} (r : Result A StepFault) (m : Moving) (old new : State) (S : Type 0) → IfErr r (λ why. Declines why m old new) → S → IfErr r (λ why. RefusesEvent (of_step why) m old new S)
 refuses (Ok x) m old new S d s = tt
 refuses (Err why) m old new S d s = refuses_by why m old new S d s
 

@@ -13,7 +13,7 @@ use Rattle.ec_protocol.specs.declared.world.World.{World as State}
 use Rattle.ec_protocol.specs.declared.world.WorldFault.{WorldFault}
 use Rattle.ec_lawful.specs.ReachedWorlds.{Reached, opens, happens, forgets, unsettles}
 use Rattle.ec_lawful.proofs.Worlds.{reached-in-order}
-use Rattle.ec_world.specs.Reaching.{IsReached, Leads, LeadsKnown, Stays}
+use Rattle.ec_world.specs.Reaching.{IsReached, Leads, LeadsKnown, StaysReached}
 use Rattle.ec_world.specs.Steps.{IsShown, IsWhole, Opens}
 use Rattle.ec_world.specs.StepEnds.{FateOf, IsTold}
 use Rattle.ec_world.specs.Worlds.{view_of}
@@ -37,8 +37,8 @@ pub opened : {A : Type 0} (result : Result World A) (tells : Type 0) (gives : Li
 opened (Ok w) tells gives most is = (is.0, is.1, is_reached is.0 (is.1).whole (view_of w) (opens (view_of w) is.2))
 opened (Err f) tells gives most is = tt
 
-pub forgotten : (old new : State) → new ≡ forget old → Stays old new
+pub forgotten : (old new : State) → new ≡ forget old → StaysReached old new
 forgotten old new q d r = subst (Reached d) (sym q) (forgets old r)
 
-pub unsettled : (old : State) (lines : List Shown) → lines ≡ old.shown ++ Unsettled ∷ [] → Stays old (record old { shown = lines })
+pub unsettled : (old : State) (lines : List Shown) → lines ≡ old.shown ++ Unsettled ∷ [] → StaysReached old (record old { shown = lines })
 unsettled old lines q d r = subst (λ ls. Reached d (record old { shown = ls })) (sym q) (unsettles old r)

@@ -15,8 +15,8 @@ use Rattle.ec_protocol.specs.declared.world.WorldFault.TheVariants as world
 use Rattle.ec_running.specs.Faults.{of_step}
 use Rattle.ec_world.specs.Laws.{in_step_keeps}
 use Rattle.ec_world.specs.Steps.{IsShown}
-use Rattle.ec_world.specs.StepEnds.{under, Fated, FateOf, IsTold, Refuses, CountsOf}
-use Rattle.ec_world.specs.Worlds.{view_of, IsInStep, Keeps}
+use Rattle.ec_world.specs.StepEnds.{under, Fated, FateOf, IsTold, RefusesEvent, CountsOf}
+use Rattle.ec_world.specs.Worlds.{view_of, IsInStep, KeepsServer}
 use Rattle.ec_running.specs.declared.fault.StepFault.{StepFault}
 use Rattle.ec_running.specs.declared.fault.StepFault.TheVariants as step
 use Rattle.ec_world.specs.declared.world.World.{World}
@@ -39,13 +39,13 @@ answer_ok (Ok x) (Err f) tells before lines old new ch steps w end fated is same
 answer_ok (Err f) (Ok s) tells before lines old new ch steps w end fated is same = let wrong : false ≡ true = is.0 in cc
 answer_ok (Err f) (Err g) tells before lines old new ch steps w end fated is same = tt
 
-pub answer_in_step : {A G : Type 0} (done : Result A StepFault) (answer : Result (Vec Shown G) WorldFault) (tells : Type 0) (now : View) (w end : World) (piece : List Shown) → OnOk done (IsInStep tells now w) → Answers done answer piece → Keeps w end → OnOk answer (IsInStep tells now end)
+pub answer_in_step : {A G : Type 0} (done : Result A StepFault) (answer : Result (Vec Shown G) WorldFault) (tells : Type 0) (now : View) (w end : World) (piece : List Shown) → OnOk done (IsInStep tells now w) → Answers done answer piece → KeepsServer w end → OnOk answer (IsInStep tells now end)
 answer_in_step (Ok x) (Ok s) tells now w end piece h is same = in_step_keeps tells now w end same h
 answer_in_step (Ok x) (Err f) tells now w end piece h is same = tt
 answer_in_step (Err f) (Ok s) tells now w end piece h is same = let wrong : false ≡ true = is.0 in cc
 answer_in_step (Err f) (Err g) tells now w end piece h is same = tt
 
-refuses_with : (f : WorldFault) (m : Moving) (old new same : State) (S R : Type 0) → same ≡ new → (S → R) → Refuses f m old new S → Refuses f m old same R
+refuses_with : (f : WorldFault) (m : Moving) (old new same : State) (S R : Type 0) → same ≡ new → (S → R) → RefusesEvent f m old new S → RefusesEvent f m old same R
 refuses_with (world.BadDisk p) m old new same S R is by h = absurd h
 refuses_with world.DiskFailed m old new same S R is by h = tt
 refuses_with (world.Spent n) m old new same S R is by h = (h.0, is ∙ h.1, by h.2)
@@ -53,13 +53,13 @@ refuses_with world.NoSuchOp m old new same S R is by h = (h.0, is ∙ h.1, by h.
 refuses_with world.NoSuchMsg m old new same S R is by h = (h.0, is ∙ h.1, by h.2)
 refuses_with world.NoMemory m old new same S R is by h = tt
 
-pub answer_err : {A G : Type 0} (done : Result A StepFault) (answer : Result (Vec Shown G) WorldFault) (m : Moving) (old : State) (tells : Type 0) (now : View) (w end : World) → IfErr done (λ why. Refuses (of_step why) m old (view_of w) (IsInStep tells now w)) → Faults done answer → view_of end ≡ view_of w → Keeps w end → IfErr answer (λ fault. Refuses fault m old (view_of end) (IsInStep tells now end))
+pub answer_err : {A G : Type 0} (done : Result A StepFault) (answer : Result (Vec Shown G) WorldFault) (m : Moving) (old : State) (tells : Type 0) (now : View) (w end : World) → IfErr done (λ why. RefusesEvent (of_step why) m old (view_of w) (IsInStep tells now w)) → Faults done answer → view_of end ≡ view_of w → KeepsServer w end → IfErr answer (λ fault. RefusesEvent fault m old (view_of end) (IsInStep tells now end))
 answer_err (Ok x) (Ok s) m old tells now w end h is view same = tt
 answer_err (Ok x) (Err f) m old tells now w end h is view same = absurd is
 answer_err (Err f) (Ok s) m old tells now w end h is view same = tt
 answer_err (Err why) (Err f) m old tells now w end h is view same =
     let stays = refuses_with (of_step why) m old (view_of w) (view_of end) (IsInStep tells now w) (IsInStep tells now end) view (λ s. in_step_keeps tells now w end same s) h in
-    subst (λ (g : WorldFault). Refuses g m old (view_of end) (IsInStep tells now end)) (sym is) stays
+    subst (λ (g : WorldFault). RefusesEvent g m old (view_of end) (IsInStep tells now end)) (sym is) stays
 
 counted_less : (old new : Counts) (F G : Type 0) → (G → F) → Counted old new F ⊥ → Counted old new G ⊥
 counted_less old new F G by h = record {

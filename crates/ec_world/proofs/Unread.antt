@@ -13,13 +13,13 @@ use Rattle.ec_store.specs.Store.{view_of}
 use Rattle.ec_store.specs.declared.fault.StoreFault.{StoreFault}
 use Rattle.ec_store.specs.declared.fault.StoreFault.TheVariants as store
 use Rattle.ec_store.specs.declared.store.Store.{Store}
-use Rattle.ec_world.specs.Opening.{Unread, fault_of}
+use Rattle.ec_world.specs.Opening.{Unread, opening_fault}
 use Rattle.ec_world.specs.Steps.{IsWhole, Opens}
 
-pub unread : (f : StoreFault) (g : WorldFault) (tells : Type 0) (gives now : List ℕ) → g ≡ fault_of f → ((place : ℕ) → f ≡ store.BadDisk place → tells → (length gives ≡ 0 → ⊥) × IsBadAt gives place × (now ≡ gives)) → Unread g tells gives now
+pub unread : (f : StoreFault) (g : WorldFault) (tells : Type 0) (gives now : List ℕ) → g ≡ opening_fault f → ((place : ℕ) → f ≡ store.BadDisk place → tells → (length gives ≡ 0 → ⊥) × IsBadAt gives place × (now ≡ gives)) → Unread g tells gives now
 unread f g tells gives now is bad = subst (λ (x : WorldFault). Unread x tells gives now) (sym is) (by f bad)
   where
-    by : (f : StoreFault) → ((place : ℕ) → f ≡ store.BadDisk place → tells → (length gives ≡ 0 → ⊥) × IsBadAt gives place × (now ≡ gives)) → Unread (fault_of f) tells gives now
+    by : (f : StoreFault) → ((place : ℕ) → f ≡ store.BadDisk place → tells → (length gives ≡ 0 → ⊥) × IsBadAt gives place × (now ≡ gives)) → Unread (opening_fault f) tells gives now
     by (store.BadDisk place) bad = bad place refl
     by store.DiskFailed bad = tt
     by store.DiskStopped bad = tt
@@ -98,10 +98,10 @@ wants_not : fault.NoMemory ≡ fault.DiskFailed → ⊥
 wants_not is = cc
 
 -- the disk failed only where the store's call answered so
-pub failed_err : (f : StoreFault) (g : WorldFault) → g ≡ fault_of f → ◌≡◌ {A = Result Store WorldFault} (Err g) (Err fault.DiskFailed) → ◌≡◌ {A = Result Store StoreFault} (Err f) (Err store.DiskFailed)
+pub failed_err : (f : StoreFault) (g : WorldFault) → g ≡ opening_fault f → ◌≡◌ {A = Result Store WorldFault} (Err g) (Err fault.DiskFailed) → ◌≡◌ {A = Result Store StoreFault} (Err f) (Err store.DiskFailed)
 failed_err f g is e = ap Err (by f (sym is ∙ same_err Store WorldFault g fault.DiskFailed e))
   where
-    by : (f : StoreFault) → fault_of f ≡ fault.DiskFailed → f ≡ store.DiskFailed
+    by : (f : StoreFault) → opening_fault f ≡ fault.DiskFailed → f ≡ store.DiskFailed
     by (store.BadDisk place) e = absurd (bad_not place e)
     by store.DiskFailed e = refl
     by store.DiskStopped e = absurd (wants_not e)

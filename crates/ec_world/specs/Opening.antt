@@ -54,20 +54,20 @@ pub record Starts (done : Serving) (server : Server) (records : List Record) : T
   pub records_are : records ≡ record_of.Epoch done.server.durable.epoch ∷ []
 
 -- why a store isn't opened
-abbrev pub fault_of : StoreFault → WorldFault
-fault_of (store.BadDisk place) = BadDisk place
-fault_of store.DiskFailed = DiskFailed
-fault_of store.DiskStopped = NoMemory
-fault_of (store.Refused f) = NoMemory
-fault_of store.NoMemory = NoMemory
+abbrev pub opening_fault : StoreFault → WorldFault
+opening_fault (store.BadDisk place) = BadDisk place
+opening_fault store.DiskFailed = DiskFailed
+opening_fault store.DiskStopped = NoMemory
+opening_fault (store.Refused f) = NoMemory
+opening_fault store.NoMemory = NoMemory
 
 -- What came of a start gives this server and its record.
-abbrev pub Begins : Came (Code × Served) → Result (Code × Trace Record) WorldFault → Type 0
-Begins (Done made None) to = ⊥
-Begins (Done made (Some mark)) to = to ≡ Ok (made.0, mark.records)
-Begins (Stopped mark) to = to ≡ Err NoMemory
-Begins came.DiskFailed to = to ≡ Err DiskFailed
-Begins came.NoMemory to = to ≡ Err NoMemory
+abbrev pub StartsServer : Came (Code × Served) → Result (Code × Trace Record) WorldFault → Type 0
+StartsServer (Done made None) to = ⊥
+StartsServer (Done made (Some mark)) to = to ≡ Ok (made.0, mark.records)
+StartsServer (Stopped mark) to = to ≡ Err NoMemory
+StartsServer came.DiskFailed to = to ≡ Err DiskFailed
+StartsServer came.NoMemory to = to ≡ Err NoMemory
 
 abbrev pub KeptBy : Option Mark → List Record → List Record → Type 0
 KeptBy None old new = new ≡ old

@@ -25,5 +25,5 @@ abbrev pub LeadsKnown : Type 0 → Counts → Counts → State → Event → Sta
 LeadsKnown tells old_counts new_counts old e new = (fate : Fate) × FateOf fate old.durable new.durable old_counts new_counts × (IsTold fate tells → Leads old e new)
 
 -- A call that is no event leads to one, too.
-abbrev pub Stays : State → State → Type 0
-Stays old new = (d : Durable) → Reached d old → Reached d new
+abbrev pub StaysReached : State → State → Type 0
+StaysReached old new = (d : Durable) → Reached d old → Reached d new

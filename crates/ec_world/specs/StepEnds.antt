@@ -55,13 +55,13 @@ abbrev pub Fated : Type 0 → Durable → List Shown → Counts → Counts → C
 Fated tells before lines old new choice steps m = (fate : Fate) × FateOf fate before m.world.durable old new × (IsTold fate tells → steps fate ≡ m) × (tells → IsShown fate choice lines m.world.shown)
 
 -- Why a step isn't taken. A fault of the machine changes nothing.
-abbrev pub Refuses : WorldFault → Moving → State → State → Type 0 → Type 0
-Refuses (BadDisk place) m old new in_step = ⊥
-Refuses (Spent n) m old new in_step = (m.fault ≡ Some (Spent n)) × (new ≡ old) × in_step
-Refuses NoSuchOp m old new in_step = (m.fault ≡ Some NoSuchOp) × (new ≡ old) × in_step
-Refuses NoSuchMsg m old new in_step = (m.fault ≡ Some NoSuchMsg) × (new ≡ old) × in_step
-Refuses DiskFailed m old new in_step = Unit {0}
-Refuses NoMemory m old new in_step = Unit {0}
+abbrev pub RefusesEvent : WorldFault → Moving → State → State → Type 0 → Type 0
+RefusesEvent (BadDisk place) m old new in_step = ⊥
+RefusesEvent (Spent n) m old new in_step = (m.fault ≡ Some (Spent n)) × (new ≡ old) × in_step
+RefusesEvent NoSuchOp m old new in_step = (m.fault ≡ Some NoSuchOp) × (new ≡ old) × in_step
+RefusesEvent NoSuchMsg m old new in_step = (m.fault ≡ Some NoSuchMsg) × (new ≡ old) × in_step
+RefusesEvent DiskFailed m old new in_step = Unit {0}
+RefusesEvent NoMemory m old new in_step = Unit {0}
 
 -- how a disk is armed where an event goes on: one that arms it has done so
 abbrev pub armed_by : Event → Option ℕ → Option ℕ

@@ -34,16 +34,16 @@ view_of w =
       records = w.records.items;
     }
 
-abbrev pub Stands : Durable → Option Server → Type 0
-Stands d None = Unit {0}
-Stands d (Some s) = StandsOn d s
+abbrev pub ServerStands : Durable → Option Server → Type 0
+ServerStands d None = Unit {0}
+ServerStands d (Some s) = StandsOn d s
 
 -- Between steps: the running server stands on the store's state, and the disk, where it tells, holds what the store has.
 pub record IsInStep (tells : Type 0) (now : View) (w : World) : Type 0 where
-  pub server : Stands (store.view_of w.store) w.server
+  pub server : ServerStands (store.view_of w.store) w.server
   pub disk : tells → store.IsHeld now w.store
 
 -- The store and the server are as before: what is in step stays so.
-pub record Keeps (old new : World) : Type 0 where
+pub record KeepsServer (old new : World) : Type 0 where
   pub store : new.store ≡ old.store
   pub server : new.server ≡ old.server

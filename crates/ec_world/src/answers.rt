@@ -1,7 +1,7 @@
 // What comes out of a clerk's step.
 ghost use Rattle.std.specs.Prelude.{◌≡◌, ◌∷◌, [], OnOk};
 ghost use Rattle.ec_protocol.specs.World as machine;
-ghost use Rattle.ec_world.specs.Worlds.{Keeps};
+ghost use Rattle.ec_world.specs.Worlds.{KeepsServer};
 ghost use Rattle.ec_world.specs.StepEnds.{under};
 
 use crate::world::World;
@@ -19,7 +19,7 @@ impl World {
         mut outs: Vec<Out>,
     ) -> Result<(), NoMemory>
         ensures ok { OnOk result (under self.new ≡ machine.come_out clerk outs.items (under self.old)) }
-        ensures same { Keeps self.old self.new }
+        ensures same { KeepsServer self.old self.new }
     {
         // the next one is taken from the end
         outs.reverse();
@@ -31,7 +31,7 @@ impl World {
 
     fn come_one(&mut self, alloc: Global, clerk: ClerkId, out: Out) -> Result<(), NoMemory>
         ensures ok { OnOk result (under self.new ≡ machine.come_out clerk (out ∷ []) (under self.old)) }
-        ensures same { Keeps self.old self.new }
+        ensures same { KeepsServer self.old self.new }
     {
         match out {
             Out::Send(msg) => self.send(clerk, msg),
@@ -50,7 +50,7 @@ impl World {
         op: Option<OpNo>,
     ) -> Result<(), NoMemory>
         ensures ok { OnOk result (under self.new ≡ machine.show_answer clerk no answer op (under self.old)) }
-        ensures same { Keeps self.old self.new }
+        ensures same { KeepsServer self.old self.new }
     {
         match take_call(&mut self.calls, clerk, no)? {
             Some((line, call)) => {

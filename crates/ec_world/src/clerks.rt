@@ -4,8 +4,8 @@ ghost use Rattle.ec_base.specs.Tables.{at};
 ghost use Rattle.ec_volume.specs.Update.{member};
 ghost use Rattle.ec_protocol.specs.Clerk as clerk_machine;
 ghost use Rattle.ec_protocol.specs.World as machine;
-ghost use Rattle.ec_world.specs.Worlds.{view_of, Keeps};
-ghost use Rattle.ec_world.specs.Calls.{begun};
+ghost use Rattle.ec_world.specs.Worlds.{view_of, KeepsServer};
+ghost use Rattle.ec_world.specs.Calls.{call_begun};
 ghost use Rattle.ec_world.specs.StepEnds.{under, Declines};
 
 use crate::world::World;
@@ -28,7 +28,7 @@ impl World {
         requires { self.old.piece.items ≡ [] }
         ensures ok { OnOk result (machine.call clerk line call (view_of self.old) ≡ under self.new) }
         ensures err { IfErr result (λ fault. Declines fault (machine.call clerk line call (view_of self.old)) (view_of self.old) (view_of self.new)) }
-        ensures same { Keeps self.old self.new }
+        ensures same { KeepsServer self.old self.new }
     {
         let text = call.duplicate()?;
         let done = self.begin_or_start(alloc, clerk, line, &text, call);
@@ -49,7 +49,7 @@ impl World {
         requires same { text.now ≡ call }
         ensures ok { OnOk result (machine.call clerk line call (view_of self.old) ≡ under self.new) }
         ensures err { IfErr result (λ fault. Declines fault (machine.call clerk line call (view_of self.old)) (view_of self.old) (view_of self.new)) }
-        ensures same { Keeps self.old self.new }
+        ensures same { KeepsServer self.old self.new }
     {
         match running::begin(&mut self.clerks, clerk, call)? {
             Begun::Took(no, outs) => {
@@ -73,7 +73,7 @@ impl World {
         requires same { text.now ≡ call }
         ensures ok { OnOk result (machine.start_and_call clerk line call (view_of self.old) ≡ under self.new) }
         ensures err { IfErr result (λ fault. Declines fault (machine.start_and_call clerk line call (view_of self.old)) (view_of self.old) (view_of self.new)) }
-        ensures same { Keeps self.old self.new }
+        ensures same { KeepsServer self.old self.new }
     {
         let Some(boot) = next(self.boot(clerk)) else {
             drop(call);
@@ -95,8 +95,8 @@ impl World {
         before: Vec<Out>,
         outs: Vec<Out>,
     ) -> Result<(), NoMemory>
-        ensures ok { OnOk result (under self.new ≡ begun clerk no line call.now before.items outs.items (under self.old)) }
-        ensures same { Keeps self.old self.new }
+        ensures ok { OnOk result (under self.new ≡ call_begun clerk no line call.now before.items outs.items (under self.old)) }
+        ensures same { KeepsServer self.old self.new }
     {
         add_copy(alloc, &mut self.calls, clerk, no, line, call)?;
         self.show_waits(alloc, clerk, no, line, call, &outs)?;
@@ -115,7 +115,7 @@ impl World {
         outs: &[Out],
     ) -> Result<(), NoMemory>
         ensures ok { OnOk result (under self.new ≡ machine.show_waits clerk no line call.now outs.now (under self.old)) }
-        ensures same { Keeps self.old self.new }
+        ensures same { KeepsServer self.old self.new }
     {
         if is_answered(no, outs) {
             return Ok(());
@@ -128,7 +128,7 @@ impl World {
         requires { self.old.piece.items ≡ [] }
         ensures ok { OnOk result (machine.push clerk op (at clerk self.old.clerks) (view_of self.old) ≡ under self.new) }
         ensures err { IfErr result (λ fault. Declines fault (machine.push clerk op (at clerk self.old.clerks) (view_of self.old)) (view_of self.old) (view_of self.new)) }
-        ensures same { Keeps self.old self.new }
+        ensures same { KeepsServer self.old self.new }
     {
         if !running::has_issued(&self.clerks, clerk, op) {
             return Err(StepFault::NoSuchOp);
@@ -159,7 +159,7 @@ impl World {
         requires { self.old.piece.items ≡ [] }
         ensures ok { OnOk result (machine.resend clerk (at clerk self.old.clerks) (view_of self.old) ≡ under self.new) }
         ensures err { IfErr result (λ fault. Declines fault (machine.resend clerk (at clerk self.old.clerks) (view_of self.old)) (view_of self.old) (view_of self.new)) }
-        ensures same { Keeps self.old self.new }
+        ensures same { KeepsServer self.old self.new }
     {
         match running::resend(&mut self.clerks, clerk)? {
             Some(outs) => Ok(self.come_out(alloc, clerk, outs)?),
@@ -170,7 +170,7 @@ impl World {
     pub(crate) fn crash(&mut self, alloc: Global, clerk: ClerkId) -> Result<(), NoMemory>
         requires { self.old.piece.items ≡ [] }
         ensures ok { OnOk result (machine.crash clerk (at clerk self.old.clerks) (view_of self.old) ≡ under self.new) }
-        ensures same { Keeps self.old self.new }
+        ensures same { KeepsServer self.old self.new }
     {
         if !self.clerks.contains(&clerk) {
             return self.show_nothing(alloc);

@@ -1,7 +1,7 @@
 // Steps of the network: links, and messages that are lost, repeated and delivered.
 ghost use Rattle.std.specs.Prelude.{◌≡◌, [], false, IfErr, OnOk};
 ghost use Rattle.ec_protocol.specs.World as machine;
-ghost use Rattle.ec_world.specs.Worlds.{view_of, Keeps};
+ghost use Rattle.ec_world.specs.Worlds.{view_of, KeepsServer};
 ghost use Rattle.ec_world.specs.Sending.{IsFor};
 ghost use Rattle.ec_world.specs.StepEnds.{under, Declines};
 
@@ -14,7 +14,7 @@ impl World {
     pub(crate) fn cut(&mut self, alloc: Global, clerk: ClerkId) -> Result<(), NoMemory>
         requires { self.old.piece.items ≡ [] }
         ensures ok { OnOk result (machine.cut clerk (view_of self.old) ≡ under self.new) }
-        ensures same { Keeps self.old self.new }
+        ensures same { KeepsServer self.old self.new }
     {
         if self.pool.is_cut(clerk) {
             return self.show_nothing(alloc);
@@ -26,7 +26,7 @@ impl World {
     pub(crate) fn uncut(&mut self, alloc: Global, clerk: ClerkId) -> Result<(), NoMemory>
         requires { self.old.piece.items ≡ [] }
         ensures ok { OnOk result (machine.uncut clerk (view_of self.old) ≡ under self.new) }
-        ensures same { Keeps self.old self.new }
+        ensures same { KeepsServer self.old self.new }
     {
         if !self.pool.is_cut(clerk) {
             return self.show_nothing(alloc);
@@ -40,7 +40,7 @@ impl World {
         requires { self.old.piece.items ≡ [] }
         ensures ok { OnOk result (machine.drop number (view_of self.old) ≡ under self.new) }
         ensures err { IfErr result (λ fault. Declines fault (machine.drop number (view_of self.old)) (view_of self.old) (view_of self.new)) }
-        ensures same { Keeps self.old self.new }
+        ensures same { KeepsServer self.old self.new }
     {
         let Some(_sent) = self.pool.message(number) else {
             return Err(StepFault::NoSuchMsg);
@@ -58,7 +58,7 @@ impl World {
         requires { self.old.piece.items ≡ [] }
         ensures ok { OnOk result (machine.repeat number (view_of self.old) ≡ under self.new) }
         ensures err { IfErr result (λ fault. Declines fault (machine.repeat number (view_of self.old)) (view_of self.old) (view_of self.new)) }
-        ensures same { Keeps self.old self.new }
+        ensures same { KeepsServer self.old self.new }
     {
         if self.pool.message(number).is_none() {
             return Err(StepFault::NoSuchMsg);
@@ -73,7 +73,7 @@ impl World {
         requires message { IsFor false number self.old.pool.pool }
         ensures ok { OnOk result (machine.deliver machine.runs number (view_of self.old) ≡ under self.new) }
         ensures err { IfErr result (λ fault. Declines fault (machine.deliver machine.runs number (view_of self.old)) (view_of self.old) (view_of self.new)) }
-        ensures same { Keeps self.old self.new }
+        ensures same { KeepsServer self.old self.new }
     {
         let Some(sent) = self.pool.message(number) else {
             return Err(StepFault::NoSuchMsg);

@@ -14,7 +14,7 @@ ghost use Rattle.ec_protocol.specs.declared.world.WorldFault.TheVariants as faul
 ghost use Rattle.ec_server.specs.Servers.{standing, StandsOn};
 ghost use Rattle.ec_store.specs.Store.{IsHeld, view_of as state_of};
 ghost use Rattle.ec_marking.specs.Keeping.{IsMarked};
-ghost use Rattle.ec_world.specs.Opening.{Unread, Unstarted, Starts, Begins, EndsOne, EndsWith, IsOfDisk, fault_of};
+ghost use Rattle.ec_world.specs.Opening.{Unread, Unstarted, Starts, StartsServer, EndsOne, EndsWith, IsOfDisk, opening_fault as fault_of};
 ghost use Rattle.ec_world.specs.Steps.{IsWhole, Opens};
 ghost use Rattle.ec_world.specs.Worlds.{view_of, IsInStep};
 
@@ -215,7 +215,7 @@ fn started<D: CrashDisk>(
 // The server of a start that is done, with its record. A disk that isn't armed doesn't stop.
 fn begun(came: Came<(Server, Served)>) -> Result<(Server, Trace<Record>), WorldFault>
     requires { IsMarked came }
-    ensures { Begins came result }
+    ensures { StartsServer came result }
 {
     match came {
         Came::Done(made, mark) => match mark {

@@ -9,8 +9,8 @@ ghost use Rattle.ec_store.specs.Store as stores;
 ghost use Rattle.ec_running.specs.Faults.{of_step};
 ghost use Rattle.ec_marking.specs.Keeping.{HasStoppedIn, IfDone, IsMarked};
 ghost use Rattle.ec_world.specs.Serving.{CameUp, Finishes, ArmsBehind, Breaks, FailsSince, serves};
-ghost use Rattle.ec_world.specs.Worlds.{view_of, IsInStep, Keeps};
-ghost use Rattle.ec_world.specs.StepEnds.{under, Fated, Refuses, IsLeft};
+ghost use Rattle.ec_world.specs.Worlds.{view_of, IsInStep, KeepsServer};
+ghost use Rattle.ec_world.specs.StepEnds.{under, Fated, RefusesEvent, IsLeft};
 ghost use Rattle.ec_running.specs.declared.fault.StepFault.TheVariants as fault;
 
 use crate::world::World;
@@ -33,7 +33,7 @@ impl World {
         requires piece { self.old.piece.items ≡ [] }
         ensures ok { OnOk result (Fated D.tells (view_of self.old).durable (view_of self.old).shown (D.counts disk.old) (D.counts disk.new) self.old.choice (λ fate. machine.restart_server fate (view_of self.old).server (view_of self.old)) (under self.new)) }
         ensures in_step { OnOk result (IsInStep D.tells (D.view disk.new) self.new) }
-        ensures err { IfErr result (λ fault. Refuses (of_step fault) (machine.restart_server machine.runs (view_of self.old).server (view_of self.old)) (view_of self.old) (view_of self.new) (IsInStep D.tells (D.view disk.new) self.new)) }
+        ensures err { IfErr result (λ fault. RefusesEvent (of_step fault) (machine.restart_server machine.runs (view_of self.old).server (view_of self.old)) (view_of self.old) (view_of self.new) (IsInStep D.tells (D.view disk.new) self.new)) }
         ensures counts { Counted (D.counts disk.old) (D.counts disk.new) (result ≡ Err fault.DiskFailed) ⊥ }
         ensures left { IfErr result (λ fault. D.tells → (image : List ℕ) → (D.view disk.new).may_leave image → IsLeft (view_of self.old).durable (machine.restart_server machine.runs (view_of self.old).server (view_of self.old)) image) }
     {
@@ -86,7 +86,7 @@ impl World {
     // What was found is shown.
     fn come_up(&mut self, alloc: Global, served: Served) -> Result<(), NoMemory>
         ensures ok { OnOk result (under self.new ≡ machine.with_world (machine.send_all served.sent) (machine.show_line show.Started (machine.show_noted self.old.unshown (machine.with_world (λ w. record w { unshown = None }) (under self.old))))) }
-        ensures same { Keeps self.old self.new }
+        ensures same { KeepsServer self.old self.new }
     {
         let unshown = self.unshown.take();
         self.show_noted(alloc, unshown)?;

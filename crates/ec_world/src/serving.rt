@@ -10,10 +10,10 @@ ghost use Rattle.ec_protocol.specs.declared.server.Server.{Server as State};
 ghost use Rattle.ec_store.specs.Store as stores;
 ghost use Rattle.ec_running.specs.Faults.{of_step};
 ghost use Rattle.ec_marking.specs.Marks.{gone};
-ghost use Rattle.ec_world.specs.Worlds.{view_of, IsInStep, Keeps, Stands};
+ghost use Rattle.ec_world.specs.Worlds.{view_of, IsInStep, KeepsServer, ServerStands};
 ghost use Rattle.ec_marking.specs.Keeping.{HasStoppedIn};
 ghost use Rattle.ec_world.specs.Serving.{CameTo, Finishes, ArmsBehind, Breaks, FailsSince, serves};
-ghost use Rattle.ec_world.specs.StepEnds.{under, Fated, Refuses, IsLeft};
+ghost use Rattle.ec_world.specs.StepEnds.{under, Fated, RefusesEvent, IsLeft};
 ghost use Rattle.ec_world.specs.Sending.{IsFor};
 ghost use Rattle.ec_running.specs.declared.fault.StepFault.TheVariants as fault;
 
@@ -39,7 +39,7 @@ impl World {
         requires message { IsFor true number self.old.pool.pool }
         ensures ok { OnOk result (Fated D.tells (view_of self.old).durable (view_of self.old).shown (D.counts disk.old) (D.counts disk.new) self.old.choice (λ fate. machine.deliver fate number (view_of self.old)) (under self.new)) }
         ensures in_step { OnOk result (IsInStep D.tells (D.view disk.new) self.new) }
-        ensures err { IfErr result (λ fault. Refuses (of_step fault) (machine.deliver machine.runs number (view_of self.old)) (view_of self.old) (view_of self.new) (IsInStep D.tells (D.view disk.new) self.new)) }
+        ensures err { IfErr result (λ fault. RefusesEvent (of_step fault) (machine.deliver machine.runs number (view_of self.old)) (view_of self.old) (view_of self.new) (IsInStep D.tells (D.view disk.new) self.new)) }
         ensures counts { Counted (D.counts disk.old) (D.counts disk.new) (result ≡ Err fault.DiskFailed) ⊥ }
         ensures left { IfErr result (λ fault. D.tells → (image : List ℕ) → (D.view disk.new).may_leave image → IsLeft (view_of self.old).durable (machine.deliver machine.runs number (view_of self.old)) image) }
     {
@@ -78,7 +78,7 @@ impl World {
         requires piece { self.old.piece.items ≡ [] }
         ensures ok { OnOk result (Fated D.tells (view_of self.old).durable (view_of self.old).shown (D.counts disk.old) (D.counts disk.new) self.old.choice (λ fate. machine.end fate clerk (view_of self.old).server (view_of self.old)) (under self.new)) }
         ensures in_step { OnOk result (IsInStep D.tells (D.view disk.new) self.new) }
-        ensures err { IfErr result (λ fault. Refuses (of_step fault) (machine.end machine.runs clerk (view_of self.old).server (view_of self.old)) (view_of self.old) (view_of self.new) (IsInStep D.tells (D.view disk.new) self.new)) }
+        ensures err { IfErr result (λ fault. RefusesEvent (of_step fault) (machine.end machine.runs clerk (view_of self.old).server (view_of self.old)) (view_of self.old) (view_of self.new) (IsInStep D.tells (D.view disk.new) self.new)) }
         ensures counts { Counted (D.counts disk.old) (D.counts disk.new) (result ≡ Err fault.DiskFailed) ⊥ }
         ensures left { IfErr result (λ fault. D.tells → (image : List ℕ) → (D.view disk.new).may_leave image → IsLeft (view_of self.old).durable (machine.end machine.runs clerk (view_of self.old).server (view_of self.old)) image) }
     {
@@ -114,7 +114,7 @@ impl World {
         came: Came<Served>,
     ) -> Result<(), StepFault>
         requires piece { self.old.piece.items ≡ [] }
-        requires stands { Stands (stores.view_of self.old.store) self.old.server }
+        requires stands { ServerStands (stores.view_of self.old.store) self.old.server }
         ensures ok { OnOk result ((done : Serving) (d : Durable) (s : Option State) → CameTo D.tells done d self.old (D.view disk.old) came → Finishes D.tells (HasStoppedIn came) self.old.choice (view_of self.old).shown (λ fate. machine.served fate done (serves s d (view_of self.old))) (under self.new)) }
         ensures in_step { OnOk result ((done : Serving) (d : Durable) → CameTo D.tells done d self.old (D.view disk.old) came → IsInStep D.tells (D.view disk.new) self.new) }
         ensures left { IfErr result (λ fault. D.tells → (done : Serving) (d : Durable) (s : Option State) → CameTo D.tells done d self.old (D.view disk.old) came → (image : List ℕ) → (D.view disk.new).may_leave image → IsLeft d (machine.served machine.runs done (serves s d (view_of self.old))) image) }
@@ -133,7 +133,7 @@ impl World {
     // The record is shown, if there is one, and the server's messages are sent.
     fn go_on(&mut self, alloc: Global, served: Served, mark: Option<Mark>) -> Result<(), NoMemory>
         ensures ok { OnOk result (under self.new ≡ machine.with_world (machine.send_all served.sent) (gone mark (under self.old))) }
-        ensures same { Keeps self.old self.new }
+        ensures same { KeepsServer self.old self.new }
     {
         if let Some(mark) = mark {
             self.records = mark.records;

@@ -2,7 +2,7 @@
 ghost use Rattle.std.specs.Prelude.{◌≡◌, [], IfOk, OnOk};
 ghost use Rattle.ec_protocol.specs.World as machine;
 ghost use Rattle.ec_history.specs.declared.shown.Shown.TheVariants as show;
-ghost use Rattle.ec_world.specs.Worlds.{view_of, Keeps};
+ghost use Rattle.ec_world.specs.Worlds.{view_of, KeepsServer};
 ghost use Rattle.ec_world.specs.StepEnds.{under};
 
 use crate::world::World;
@@ -17,14 +17,14 @@ impl World {
     pub(crate) fn begin_step(&mut self, alloc: Global)
         ensures value { view_of self.new ≡ view_of self.old }
         ensures piece { self.new.piece.items ≡ [] }
-        ensures same { Keeps self.old self.new }
+        ensures same { KeepsServer self.old self.new }
     {
         self.piece = Vec::new(alloc);
     }
 
     pub(crate) fn show_line(&mut self, alloc: Global, line: Shown) -> Result<(), NoMemory>
         ensures ok { OnOk result (under self.new ≡ machine.show_line line (under self.old)) }
-        ensures same { Keeps self.old self.new }
+        ensures same { KeepsServer self.old self.new }
     {
         if let Err(fault) = self.lines.note(alloc, &line) {
             drop(line);
@@ -38,14 +38,14 @@ impl World {
     pub(crate) fn show_nothing(&mut self, alloc: Global) -> Result<(), NoMemory>
         requires { self.old.piece.items ≡ [] }
         ensures ok { OnOk result (under self.new ≡ machine.nothing (view_of self.old)) }
-        ensures same { Keeps self.old self.new }
+        ensures same { KeepsServer self.old self.new }
     {
         self.show_line(alloc, Shown::Nothing)
     }
 
     pub(crate) fn show_noted(&mut self, alloc: Global, noted: Option<Noted>) -> Result<(), NoMemory>
         ensures ok { OnOk result (under self.new ≡ machine.show_noted noted (under self.old)) }
-        ensures same { Keeps self.old self.new }
+        ensures same { KeepsServer self.old self.new }
     {
         let Some(noted) = noted else {
             return Ok(());
@@ -59,7 +59,7 @@ impl World {
     // The session of the clerk's start of this boot ended.
     fn show_ended(&mut self, alloc: Global, clerk: ClerkId, boot: u64) -> Result<(), NoMemory>
         ensures ok { OnOk result (under self.new ≡ machine.show_line (machine.show_ended clerk boot (view_of self.old)) (under self.old)) }
-        ensures same { Keeps self.old self.new }
+        ensures same { KeepsServer self.old self.new }
     {
         let line = self.ended_line(clerk, boot)?;
         self.show_line(alloc, line)
@@ -97,7 +97,7 @@ impl World {
     // memory.
     pub(crate) fn send(&mut self, clerk: ClerkId, msg: Msg) -> Result<(), NoMemory>
         ensures ok { OnOk result (under self.new ≡ machine.with_world (machine.send clerk msg) (under self.old)) }
-        ensures same { Keeps self.old self.new }
+        ensures same { KeepsServer self.old self.new }
     {
         if !msg.sound() {
             return Err(NoMemory);
@@ -108,7 +108,7 @@ impl World {
 
     pub(crate) fn send_all(&mut self, mut sent: Vec<(ClerkId, Msg)>) -> Result<(), NoMemory>
         ensures ok { OnOk result (under self.new ≡ machine.with_world (machine.send_all sent.items) (under self.old)) }
-        ensures same { Keeps self.old self.new }
+        ensures same { KeepsServer self.old self.new }
     {
         // the next one is taken from the end
         sent.reverse();

@@ -3,8 +3,8 @@ ghost use Rattle.std.specs.Prelude.{◌≡◌, ℕ, List, [], Err, IsOk, IfOk, I
 ghost use Rattle.ec_disk.specs.Effects.{Counted};
 ghost use Rattle.ec_protocol.specs.World as machine;
 ghost use Rattle.ec_running.specs.Faults.{of_step};
-ghost use Rattle.ec_world.specs.Worlds.{view_of, IsInStep, Keeps};
-ghost use Rattle.ec_world.specs.StepEnds.{under, Fated, Refuses, IsLeft, behind_arm, CountsOf};
+ghost use Rattle.ec_world.specs.Worlds.{view_of, IsInStep, KeepsServer};
+ghost use Rattle.ec_world.specs.StepEnds.{under, Fated, RefusesEvent, IsLeft, behind_arm, CountsOf};
 ghost use Rattle.ec_running.specs.declared.fault.StepFault.TheVariants as fault;
 
 use crate::world::World;
@@ -27,7 +27,7 @@ impl World {
         requires piece { self.old.piece.items ≡ [] }
         ensures ok { OnOk result (Fated D.tells (view_of self.old).durable (view_of self.old).shown (behind_arm event (D.counts disk.old)) (D.counts disk.new) self.old.choice (λ fate. machine.happen fate event (view_of self.old)) (under self.new)) }
         ensures in_step { OnOk result (IsInStep D.tells (D.view disk.new) self.new) }
-        ensures err { IfErr result (λ fault. Refuses (of_step fault) (machine.happen machine.runs event (view_of self.old)) (view_of self.old) (view_of self.new) (IsInStep D.tells (D.view disk.new) self.new)) }
+        ensures err { IfErr result (λ fault. RefusesEvent (of_step fault) (machine.happen machine.runs event (view_of self.old)) (view_of self.old) (view_of self.new) (IsInStep D.tells (D.view disk.new) self.new)) }
         ensures counts { CountsOf event (D.counts disk.old) (D.counts disk.new) (result ≡ Err fault.DiskFailed) ⊥ }
         ensures left { IfErr result (λ fault. D.tells → (image : List ℕ) → (D.view disk.new).may_leave image → IsLeft (view_of self.old).durable (machine.happen machine.runs event (view_of self.old)) image) }
     {
@@ -62,7 +62,7 @@ impl World {
         requires piece { self.old.piece.items ≡ [] }
         ensures ok { OnOk result (Fated D.tells (view_of self.old).durable (view_of self.old).shown (D.counts disk.old) (D.counts disk.new) self.old.choice (λ fate. machine.deliver fate number (view_of self.old)) (under self.new)) }
         ensures in_step { OnOk result (IsInStep D.tells (D.view disk.new) self.new) }
-        ensures err { IfErr result (λ fault. Refuses (of_step fault) (machine.deliver machine.runs number (view_of self.old)) (view_of self.old) (view_of self.new) (IsInStep D.tells (D.view disk.new) self.new)) }
+        ensures err { IfErr result (λ fault. RefusesEvent (of_step fault) (machine.deliver machine.runs number (view_of self.old)) (view_of self.old) (view_of self.new) (IsInStep D.tells (D.view disk.new) self.new)) }
         ensures counts { Counted (D.counts disk.old) (D.counts disk.new) (result ≡ Err fault.DiskFailed) ⊥ }
         ensures left { IfErr result (λ fault. D.tells → (image : List ℕ) → (D.view disk.new).may_leave image → IsLeft (view_of self.old).durable (machine.deliver machine.runs number (view_of self.old)) image) }
     {
@@ -85,7 +85,7 @@ impl World {
         ensures ok { IfOk result (λ shown. IsOk done × (shown.items ≡ self.old.piece.items)) }
         ensures err { IfErr result (λ fault. IsErrAnd done (λ why. fault ≡ of_step why)) }
         ensures view { view_of self.new ≡ view_of self.old }
-        ensures same { Keeps self.old self.new }
+        ensures same { KeepsServer self.old self.new }
     {
         match done {
             Ok(()) => Ok(mem::replace(&mut self.piece, Vec::new(alloc))),

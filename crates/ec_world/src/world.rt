@@ -6,10 +6,10 @@ ghost use Rattle.ec_durable.specs.declared.state.Durable.{Durable};
 ghost use Rattle.ec_history.specs.declared.shown.Shown.TheVariants as shown;
 ghost use Rattle.ec_protocol.specs.World as machine;
 ghost use Rattle.ec_protocol.specs.declared.world.WorldFault.TheVariants as fault;
-ghost use Rattle.ec_world.specs.Worlds.{view_of, IsInStep, Keeps};
-ghost use Rattle.ec_world.specs.Reaching.{IsReached, LeadsKnown, Stays};
+ghost use Rattle.ec_world.specs.Worlds.{view_of, IsInStep, KeepsServer};
+ghost use Rattle.ec_world.specs.Reaching.{IsReached, LeadsKnown, StaysReached};
 ghost use Rattle.ec_world.specs.Steps.{Opens, IsShown};
-ghost use Rattle.ec_world.specs.StepEnds.{Unopened, FateOf, IsTold, Refuses, behind_arm, CountsOf, IsLeft};
+ghost use Rattle.ec_world.specs.StepEnds.{Unopened, FateOf, IsTold, RefusesEvent, behind_arm, CountsOf, IsLeft};
 
 use crate::lines::Lines;
 use crate::opening::{store_on, world_on};
@@ -122,7 +122,7 @@ impl World {
         ensures ok { IfOk result (λ shown. (fate : machine.Fate) × FateOf fate (view_of self.old).durable (view_of self.new).durable (behind_arm event (D.counts disk.old)) (D.counts disk.new) × (IsTold fate D.tells → machine.happen fate event (view_of self.old) ≡ record { world = view_of self.new; shown = shown.items; fault = None }) × (D.tells → IsShown fate self.old.choice (view_of self.old).shown (view_of self.new).shown)) }
         ensures reached { OnOk result (LeadsKnown D.tells (behind_arm event (D.counts disk.old)) (D.counts disk.new) (view_of self.old) event (view_of self.new)) }
         ensures in_step { OnOk result (IsInStep D.tells (D.view disk.new) self.new) }
-        ensures err { IfErr result (λ fault. Refuses fault (machine.happen machine.runs event (view_of self.old)) (view_of self.old) (view_of self.new) (IsInStep D.tells (D.view disk.new) self.new)) }
+        ensures err { IfErr result (λ fault. RefusesEvent fault (machine.happen machine.runs event (view_of self.old)) (view_of self.old) (view_of self.new) (IsInStep D.tells (D.view disk.new) self.new)) }
         ensures counts { CountsOf event (D.counts disk.old) (D.counts disk.new) (IsErrOf result fault.DiskFailed) (IsErrOf result fault.NoMemory) }
         ensures left { IfErr result (λ fault. D.tells → (image : List ℕ) → (D.view disk.new).may_leave image → IsLeft (view_of self.old).durable (machine.happen machine.runs event (view_of self.old)) image) }
     {
@@ -159,8 +159,8 @@ impl World {
     /// Keeps the messages that are pending or among the last 4,096 ones. It takes no memory.
     pub fn forget(&mut self)
         ensures value { view_of self.new ≡ machine.forget (view_of self.old) }
-        ensures reached { Stays (view_of self.old) (view_of self.new) }
-        ensures same { Keeps self.old self.new }
+        ensures reached { StaysReached (view_of self.old) (view_of self.new) }
+        ensures same { KeepsServer self.old self.new }
     {
         self.pool.forget();
     }
@@ -169,8 +169,8 @@ impl World {
     pub fn show_unsettled(&mut self, alloc: Global) -> Result<Shown, NoMemory>
         ensures line { IfOk result (λ line. line ≡ shown.Unsettled) }
         ensures value { OnOk result (view_of self.new ≡ (machine.show_line shown.Unsettled (machine.moving (view_of self.old))).world) }
-        ensures reached { OnOk result (Stays (view_of self.old) (view_of self.new)) }
-        ensures same { Keeps self.old self.new }
+        ensures reached { OnOk result (StaysReached (view_of self.old) (view_of self.new)) }
+        ensures same { KeepsServer self.old self.new }
     {
         self.lines.note(alloc, &Shown::Unsettled)?;
         Ok(Shown::Unsettled)

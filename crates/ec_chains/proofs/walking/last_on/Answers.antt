@@ -1,7 +1,7 @@
 use Rattle.std.proofs.Common.{◌≤◌, ℕ, Option, sym, subst}
 use Rattle.ec_volume.specs.declared.update.Update.{Update}
 use Rattle.ec_chains.proofs.Taken.{last-most, latest-found, none-found}
-use Rattle.ec_chains.specs.Slots.{placed, shown}
+use Rattle.ec_chains.specs.Slots.{placed, shown_update}
 use Rattle.ec_chains.proofs.Live.{placed-length, placed-last}
 use Rattle.ec_chains.proofs.walking.last_on.Goals as goal
 
@@ -12,7 +12,7 @@ down-init c =
       c.up_to-count.ensures.within,
       λ n u h t. c.up_to-count.ensures.members n
           (subst (λ (y : ℕ × Option Update). n ≤ y.0) c.index-held-held.is
-          (last-most (placed held) (x.0, shown x.1) c.requires.sorted (subst (λ k. 1 ≤ k) (sym (placed-length held)) c.in-len1-up.len_at_least) (placed-last held x c.index-held-held.is) n u h))
+          (last-most (placed held) (x.0, shown_update x.1) c.requires.sorted (subst (λ k. 1 ≤ k) (sym (placed-length held)) c.in-len1-up.len_at_least) (placed-last held x c.index-held-held.is) n u h))
           (c.requires.linked n u h t),
     )
 

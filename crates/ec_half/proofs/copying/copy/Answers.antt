@@ -1,5 +1,5 @@
 use Rattle.std.proofs.Common.{rules, arith}
-use Rattle.ec_half.specs.Contents.{behind, rested-then}
+use Rattle.ec_half.specs.Contents.{content_behind, rested-then}
 use Rattle.ec_half.proofs.Copies.{copied-piece, copied-whole}
 use Rattle.ec_half.proofs.copying.copy.Goals as goal
 
@@ -23,11 +23,11 @@ pieces-preserved g c = record {
   source_known = search rules;
   other_header = λ told long. c.write.ensures.header told c.in-Done-write.is (c.pieces.invariant.other_header told long);
   copied = λ source other long is fits.
-      copied-piece c.pieces.at c.min-count.result _ c.read.new.into (behind (g.S.Disk.view c.args.source.now.disk.now)).gives (behind (g.S.Disk.view c.pieces.source.disk.now)).gives (behind (g.O.Disk.view c.pieces.other.disk.now)).gives
-      (behind (g.O.Disk.view c.write.new.self.disk.now)).gives (c.pieces.invariant.copied source other long is fits) (c.pieces.invariant.source_rests source).gives (search rules) (search rules) (omega (arith, is, c.pieces-test.true, c.min-count.ensures))
+      copied-piece c.pieces.at c.min-count.result _ c.read.new.into (content_behind (g.S.Disk.view c.args.source.now.disk.now)).gives (content_behind (g.S.Disk.view c.pieces.source.disk.now)).gives (content_behind (g.O.Disk.view c.pieces.other.disk.now)).gives
+      (content_behind (g.O.Disk.view c.write.new.self.disk.now)).gives (c.pieces.invariant.copied source other long is fits) (c.pieces.invariant.source_rests source).gives (search rules) (search rules) (omega (arith, is, c.pieces-test.true, c.min-count.ensures))
       (c.read.ensures.bytes source c.in-Done.is) (c.write.ensures.written other c.in-Done-write.is (c.pieces.invariant.other_header other long));
 }
 
 pub returns-clause-copied : goal.returns-clause-copied
 returns-clause-copied g c done source other long is fits =
-    copied-whole c.pieces.at (behind (g.S.Disk.view c.args.source.now.disk.now)).gives (behind (g.O.Disk.view c.pieces.other.disk.now)).gives (c.pieces.invariant.copied source other long is fits) (omega (arith, is, c.pieces-test.false))
+    copied-whole c.pieces.at (content_behind (g.S.Disk.view c.args.source.now.disk.now)).gives (content_behind (g.O.Disk.view c.pieces.other.disk.now)).gives (c.pieces.invariant.copied source other long is fits) (omega (arith, is, c.pieces-test.false))

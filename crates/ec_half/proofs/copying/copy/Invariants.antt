@@ -1,5 +1,5 @@
 use Rattle.std.proofs.Common.{◌≡◌, ◌≤◌, ◌-◌, true, length}
-use Rattle.ec_half.specs.Contents.{behind, HasHeader, Rested}
+use Rattle.ec_half.specs.Contents.{content_behind, HasHeader, Rested}
 use Rattle.ec_half.proofs.Copies.{IsCopied}
 use Rattle.ec_half.proofs.copying.copy.Given as goal
 
@@ -13,10 +13,10 @@ invariant-pieces g l = record {
   source_most : l.source.most ≡ l.fn.source.most;
   other_most : l.other.most ≡ l.fn.other.most;
   other_keeps : l.fn.other.has_failed ≡ true → l.other.has_failed ≡ true;
-  source_rests : g.S.Disk.tells → Rested (behind (g.S.Disk.view l.fn.source.disk.now)) (behind (g.S.Disk.view l.source.disk.now));
+  source_rests : g.S.Disk.tells → Rested (content_behind (g.S.Disk.view l.fn.source.disk.now)) (content_behind (g.S.Disk.view l.source.disk.now));
   source_known : l.source.len ≡ l.fn.source.len;
   other_header : g.O.Disk.tells → HasHeader (g.O.Disk.view l.fn.other.disk.now) → HasHeader (g.O.Disk.view l.other.disk.now);
-  copied : g.S.Disk.tells → g.O.Disk.tells → HasHeader (g.O.Disk.view l.fn.other.disk.now) → l.len ≡ length (behind (g.S.Disk.view l.fn.source.disk.now)).gives → length (behind (g.O.Disk.view l.fn.other.disk.now)).gives ≤ l.len → IsCopied l.at (behind (g.S.Disk.view l.fn.source.disk.now)).gives (behind (g.O.Disk.view l.other.disk.now)).gives;
+  copied : g.S.Disk.tells → g.O.Disk.tells → HasHeader (g.O.Disk.view l.fn.other.disk.now) → l.len ≡ length (content_behind (g.S.Disk.view l.fn.source.disk.now)).gives → length (content_behind (g.O.Disk.view l.fn.other.disk.now)).gives ≤ l.len → IsCopied l.at (content_behind (g.S.Disk.view l.fn.source.disk.now)).gives (content_behind (g.O.Disk.view l.other.disk.now)).gives;
 }
 
 abbrev pub decreases-pieces : goal.decreases-pieces

@@ -1,11 +1,11 @@
 use Rattle.std.proofs.Common.{rules, arith, ◌∙◌}
 use Rattle.std.proofs.lemmas.List.{take-replicate}
-use Rattle.ec_half.specs.Contents.{behind}
+use Rattle.ec_half.specs.Contents.{content_behind}
 use Rattle.ec_half.proofs.Fills.{filled-none, filled-piece, filled-end, filled-short}
 use Rattle.ec_half.proofs.copying.lengthen.Goals as goal
 
 pub returns-then-to-from-clause-filled : goal.returns-then-to-from-clause-filled
-returns-then-to-from-clause-filled g c done told long is = filled-short (behind (g.D.Disk.view c.args.half.now.disk.now)).gives c.args.from c.args.to is c.if-to-from.true
+returns-then-to-from-clause-filled g c done told long is = filled-short (content_behind (g.D.Disk.view c.args.half.now.disk.now)).gives c.args.from c.args.to is c.if-to-from.true
 
 pub pieces-init : goal.pieces-init
 pieces-init g c = record {
@@ -15,7 +15,7 @@ pieces-init g c = record {
   begun = search rules;
   within = omega (arith, c.if-to-from.false);
   header = λ told long. long;
-  zeros = λ told long is. filled-none (behind (g.D.Disk.view c.args.half.now.disk.now)).gives c.args.from is;
+  zeros = λ told long is. filled-none (content_behind (g.D.Disk.view c.args.half.now.disk.now)).gives c.args.from is;
 }
 
 pub pieces-preserved : goal.pieces-preserved
@@ -27,11 +27,11 @@ pieces-preserved g c = record {
   within = omega (arith, c.pieces-test.true, c.min-count.ensures);
   header = λ told long. c.write.ensures.header told c.in-Done.is (c.pieces.invariant.header told long);
   zeros = λ told long is.
-      filled-piece (behind (g.D.Disk.view c.args.half.now.disk.now)).gives (behind (g.D.Disk.view c.pieces.half.disk.now)).gives (behind (g.D.Disk.view c.write.new.self.disk.now)).gives _ c.pieces.at c.min-count.result
+      filled-piece (content_behind (g.D.Disk.view c.args.half.now.disk.now)).gives (content_behind (g.D.Disk.view c.pieces.half.disk.now)).gives (content_behind (g.D.Disk.view c.write.new.self.disk.now)).gives _ c.pieces.at c.min-count.result
       (take-replicate c.min-count.result 4096 0 (omega (arith, c.min-count.ensures))) (omega (arith, is, c.pieces.invariant.begun)) (c.pieces.invariant.zeros told long is) (c.write.ensures.written told c.in-Done.is (c.pieces.invariant.header told long));
 }
 
 pub returns-clause-filled : goal.returns-clause-filled
 returns-clause-filled g c done told long is =
     (c.sync.ensures.stays told).gives
-    ∙ filled-end (behind (g.D.Disk.view c.args.half.now.disk.now)).gives (behind (g.D.Disk.view c.pieces.half.disk.now)).gives c.pieces.at c.args.to (c.pieces.invariant.zeros told long is) c.pieces.invariant.within c.pieces-test.false
+    ∙ filled-end (content_behind (g.D.Disk.view c.args.half.now.disk.now)).gives (content_behind (g.D.Disk.view c.pieces.half.disk.now)).gives c.pieces.at c.args.to (c.pieces.invariant.zeros told long is) c.pieces.invariant.within c.pieces-test.false

@@ -1,6 +1,6 @@
 use Rattle.std.proofs.Common.{◌≡◌, ◌≤◌, ◌-◌, length}
 use Rattle.ec_slots.specs.Contents.{filled}
-use Rattle.ec_half.specs.Contents.{behind, HasHeader}
+use Rattle.ec_half.specs.Contents.{content_behind, HasHeader}
 use Rattle.ec_half.proofs.copying.lengthen.Given as goal
 
 abbrev pub invariant-pieces : goal.invariant-pieces
@@ -11,7 +11,7 @@ invariant-pieces g l = record {
   begun : l.from ≤ l.at;
   within : l.at ≤ l.to;
   header : g.D.Disk.tells → HasHeader (g.D.Disk.view l.fn.half.disk.now) → HasHeader (g.D.Disk.view l.half.disk.now);
-  zeros : g.D.Disk.tells → HasHeader (g.D.Disk.view l.fn.half.disk.now) → l.from ≡ length (behind (g.D.Disk.view l.fn.half.disk.now)).gives → (behind (g.D.Disk.view l.half.disk.now)).gives ≡ filled (behind (g.D.Disk.view l.fn.half.disk.now)).gives l.at;
+  zeros : g.D.Disk.tells → HasHeader (g.D.Disk.view l.fn.half.disk.now) → l.from ≡ length (content_behind (g.D.Disk.view l.fn.half.disk.now)).gives → (content_behind (g.D.Disk.view l.half.disk.now)).gives ≡ filled (content_behind (g.D.Disk.view l.fn.half.disk.now)).gives l.at;
 }
 
 abbrev pub decreases-pieces : goal.decreases-pieces

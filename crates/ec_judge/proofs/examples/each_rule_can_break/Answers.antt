@@ -8,7 +8,7 @@ use Rattle.ec_order.specs.Order.{ask}
 use Rattle.ec_history.specs.Legal.{IsLegal, IsLawful, from_formatted}
 use Rattle.ec_history.specs.declared.entry.Answer.TheVariants as answer
 use Rattle.ec_history.specs.declared.entry.Entry.TheVariants as entry
-use Rattle.ec_judge.specs.Example.{f, makes, then_calls, loses, writes}
+use Rattle.ec_judge.specs.Example.{f, making_entry, then_calls, loses, writes}
 use Rattle.ec_judge.proofs.Steps.{none-closed}
 use Rattle.ec_judge.proofs.examples.each_rule_can_break.Goals as goal
 
@@ -18,18 +18,18 @@ not-nil n ns e = cc
 not-stat : (k : Kind) (m s w z : ℕ) → reply.Ok ≡ reply.Stat k m s w z → ⊥
 not-stat k m s w z e = cc
 
-made : IsLegal from_formatted 32 (makes (Some 1) ∷ [])
+made : IsLegal from_formatted 32 (making_entry (Some 1) ∷ [])
 made = (record { number = refl; report = refl; room = tt; reply = (refl, refl) }, tt)
 
-lost : IsLawful from_formatted (makes (Some 1) ∷ []) 0 1 (1 ∷ [])
+lost : IsLawful from_formatted (making_entry (Some 1) ∷ []) 0 1 (1 ∷ [])
 lost = record { kept_so_far = tt; uncovered = ((λ v. none-closed _ 1 v.closed_in, tt), tt); untouched = (tt, tt); closed = tt; fits = λ o. tt }
 
 pub returns-clause-number : goal.returns-clause-number
-returns-clause-number c = record { before = []; its = (makes (Some 2)).1; after = []; parts = refl; legal = tt; broken = λ e. omega (arith, e) }
+returns-clause-number c = record { before = []; its = (making_entry (Some 2)).1; after = []; parts = refl; legal = tt; broken = λ e. omega (arith, e) }
 
 pub returns-clause-report : goal.returns-clause-report
 returns-clause-report c = record {
-  before = makes (Some 1) ∷ loses 2 ∷ [];
+  before = making_entry (Some 1) ∷ loses 2 ∷ [];
   its = entry.Call 0 1 3 2 (call.List []) (answer.Reply (reply.Names [])) None;
   after = [];
   parts = refl;
@@ -45,7 +45,7 @@ returns-clause-full c = (record { number = tt; report = refl; room = (tt, tt); r
 
 pub returns-clause-reply : goal.returns-clause-reply
 returns-clause-reply c = record {
-  before = makes (Some 1) ∷ [];
+  before = making_entry (Some 1) ∷ [];
   its = (then_calls 0 1 (call.Stat f) (answer.Reply reply.Ok) None).1;
   after = [];
   parts = refl;
@@ -58,7 +58,7 @@ returns-clause-named c = record { before = []; its = (loses 1).1; after = []; pa
 
 pub returns-clause-covered : goal.returns-clause-covered
 returns-clause-covered c = record {
-  before = makes (Some 1) ∷ then_calls 0 1 call.Sync (answer.Reply reply.Ok) None ∷ [];
+  before = making_entry (Some 1) ∷ then_calls 0 1 call.Sync (answer.Reply reply.Ok) None ∷ [];
   its = (loses 3).1;
   after = [];
   parts = refl;
@@ -68,7 +68,7 @@ returns-clause-covered c = record {
 
 pub returns-clause-touched : goal.returns-clause-touched
 returns-clause-touched c = record {
-  before = makes (Some 1) ∷ then_calls 1 1 (call.List []) (answer.Reply (reply.Names ((102 ∷ []) ∷ []))) None ∷ [];
+  before = making_entry (Some 1) ∷ then_calls 1 1 (call.List []) (answer.Reply (reply.Names ((102 ∷ []) ∷ []))) None ∷ [];
   its = (loses 3).1;
   after = [];
   parts = refl;
@@ -78,7 +78,7 @@ returns-clause-touched c = record {
 
 pub returns-clause-closed : goal.returns-clause-closed
 returns-clause-closed c = record {
-  before = makes (Some 1) ∷ then_calls 0 1 writes (answer.Reply reply.Ok) (Some 2) ∷ [];
+  before = making_entry (Some 1) ∷ then_calls 0 1 writes (answer.Reply reply.Ok) (Some 2) ∷ [];
   its = (loses 3).1;
   after = [];
   parts = refl;
@@ -88,7 +88,7 @@ returns-clause-closed c = record {
 
 pub returns-clause-fits : goal.returns-clause-fits
 returns-clause-fits c = record {
-  before = makes (Some 1) ∷ then_calls 0 2 writes (answer.Reply reply.Ok) (Some 1) ∷ [];
+  before = making_entry (Some 1) ∷ then_calls 0 2 writes (answer.Reply reply.Ok) (Some 1) ∷ [];
   its = (loses 3).1;
   after = [];
   parts = refl;

@@ -1,19 +1,19 @@
 use Rattle.std.proofs.Common.{inl, inr, ◌∙◌, sym}
-use Rattle.ec_half.specs.Contents.{behind}
+use Rattle.ec_half.specs.Contents.{content_behind}
 use Rattle.ec_mirror.proofs.Joins.{filled-joined, known-length, length-joined, fits-joined}
 use Rattle.ec_mirror.proofs.opening.join_from.Goals as goal
 
 pub returns-in-Both-clause-content : goal.returns-in-Both-clause-content
 returns-in-Both-clause-content g c source other long =
     let rests = (c.in_ok-len.ensures.rests source).gives in
-    filled-joined (behind (g.S.Disk.view c.args.source.now.disk.now)).gives _ _ _ (behind (g.O.Disk.view c.args.other.now.disk.now)).gives c.in_ok-other_len.other_len rests
+    filled-joined (content_behind (g.S.Disk.view c.args.source.now.disk.now)).gives _ _ _ (content_behind (g.O.Disk.view c.args.other.now.disk.now)).gives c.in_ok-other_len.other_len rests
     (c.lengthen.ensures.filled c.in-Done.is source (c.in_ok-len.ensures.header source long) (known-length _ _ c.in_ok-len.len (c.in_ok-len.ensures.len source) rests))
     (c.join.ensures.source_stays (inl c.in-Both.is) source).gives (c.in_ok-other_len.ensures.len other)
 
 pub returns-in-SourceAlone-clause-content : goal.returns-in-SourceAlone-clause-content
 returns-in-SourceAlone-clause-content g c source other long =
     let rests = (c.in_ok-len.ensures.rests source).gives in
-    filled-joined (behind (g.S.Disk.view c.args.source.now.disk.now)).gives _ _ _ (behind (g.O.Disk.view c.args.other.now.disk.now)).gives c.in_ok-other_len.other_len rests
+    filled-joined (content_behind (g.S.Disk.view c.args.source.now.disk.now)).gives _ _ _ (content_behind (g.O.Disk.view c.args.other.now.disk.now)).gives c.in_ok-other_len.other_len rests
     (c.lengthen.ensures.filled c.in-Done.is source (c.in_ok-len.ensures.header source long) (known-length _ _ c.in_ok-len.len (c.in_ok-len.ensures.len source) rests))
     (c.join.ensures.source_stays (inr c.in-SourceAlone.is) source).gives (c.in_ok-other_len.ensures.len other)
 

@@ -1,14 +1,14 @@
 use Rattle.std.proofs.Common.{◌∙◌, length, sym}
-use Rattle.ec_half.specs.Contents.{behind}
+use Rattle.ec_half.specs.Contents.{content_behind}
 use Rattle.ec_slots.specs.Contents.{filled}
 use Rattle.ec_mirror.proofs.Joins.{joined-first, joined-second, lead-first, lead-second, joined-both, first-alone, second-alone}
 use Rattle.ec_mirror.proofs.opening.joined.Goals as goal
 
 pub returns-in_ok-joined-clause-content : goal.returns-in_ok-joined-clause-content
 returns-in_ok-joined-clause-content g c first second first_long second_long =
-    let a = (behind (g.A.Disk.view c.args.pair.now.first.disk.now)).gives in
-    let b = (behind (g.B.Disk.view c.args.pair.now.second.disk.now)).gives in
-    lead-first c.in_ok-joined.joined c.kept_by-pair.result (behind (g.A.Disk.view c.join_from.new.source.disk.now)) (behind (g.B.Disk.view c.join_from.new.other.disk.now)) (filled a (length b)) c.kept_by-pair.ensures.both c.kept_by-pair.ensures.alone (c.in_ok-joined.ensures.content first second first_long)
+    let a = (content_behind (g.A.Disk.view c.args.pair.now.first.disk.now)).gives in
+    let b = (content_behind (g.B.Disk.view c.args.pair.now.second.disk.now)).gives in
+    lead-first c.in_ok-joined.joined c.kept_by-pair.result (content_behind (g.A.Disk.view c.join_from.new.source.disk.now)) (content_behind (g.B.Disk.view c.join_from.new.other.disk.now)) (filled a (length b)) c.kept_by-pair.ensures.both c.kept_by-pair.ensures.alone (c.in_ok-joined.ensures.content first second first_long)
     ∙ sym (joined-first c.args.pair.now.first.generation.number c.args.pair.now.second.generation.number a b c.if-pair.true)
 
 pub returns-in_ok-joined-clause-alike : goal.returns-in_ok-joined-clause-alike
@@ -17,9 +17,9 @@ returns-in_ok-joined-clause-alike g c first second first_long second_long both =
 
 pub returns-in_ok-joined-2-clause-content : goal.returns-in_ok-joined-2-clause-content
 returns-in_ok-joined-2-clause-content g c first second first_long second_long =
-    let a = (behind (g.A.Disk.view c.args.pair.now.first.disk.now)).gives in
-    let b = (behind (g.B.Disk.view c.args.pair.now.second.disk.now)).gives in
-    lead-second c.in_ok-joined-2.joined c.kept_by-pair-else-pair.result (behind (g.A.Disk.view c.join_from-else-pair.new.other.disk.now)) (behind (g.B.Disk.view c.join_from-else-pair.new.source.disk.now)) (filled b (length a)) c.kept_by-pair-else-pair.ensures.both c.kept_by-pair-else-pair.ensures.alone
+    let a = (content_behind (g.A.Disk.view c.args.pair.now.first.disk.now)).gives in
+    let b = (content_behind (g.B.Disk.view c.args.pair.now.second.disk.now)).gives in
+    lead-second c.in_ok-joined-2.joined c.kept_by-pair-else-pair.result (content_behind (g.A.Disk.view c.join_from-else-pair.new.other.disk.now)) (content_behind (g.B.Disk.view c.join_from-else-pair.new.source.disk.now)) (filled b (length a)) c.kept_by-pair-else-pair.ensures.both c.kept_by-pair-else-pair.ensures.alone
     (λ both. c.in_ok-joined-2.ensures.alike both second first second_long first_long) (c.in_ok-joined-2.ensures.content second first second_long)
     ∙ sym (joined-second c.args.pair.now.first.generation.number c.args.pair.now.second.generation.number a b c.if-pair.false)
 

@@ -34,4 +34,4 @@ returns-clause-mounted g c =
       net = record { faults = g.N.Net.faults c.args.net.now; bad = g.N.Net.bad c.args.net.now; ended = g.N.Net.ended c.args.net.now };
       net_after = record { faults = g.N.Net.faults c.work-answers.new.net; bad = g.N.Net.bad c.work-answers.new.net; ended = g.N.Net.ended c.work-answers.new.net };
     } in
-    told_of c.args.clerk c.args.boot w c.in-Ok.rows.items c.deref.result.now c.deref-2.result.now c.in-Ok-lanes_of.lanes.items c.in-Ok-lanes_of.ensures c.deref.ensures.value c.deref-2.ensures.value c.args.clerk refl (work.seen c.work-answers.result) (work.seen c.work-answers.result) refl c.tell.result c.in-Ok.ensures.given c.work-answers.ensures.works c.tell.ensures.told
+    told_of c.args.clerk c.args.boot w c.in-Ok.rows.items c.deref.result.now c.deref-2.result.now c.in-Ok-lanes_of.lanes.items c.in-Ok-lanes_of.ensures c.deref.ensures.value c.deref-2.ensures.value c.args.clerk refl (work.given_of c.work-answers.result) (work.given_of c.work-answers.result) refl c.tell.result c.in-Ok.ensures.given c.work-answers.ensures.works c.tell.ensures.told

@@ -14,4 +14,4 @@ returns-in-Ok-back-clause-works g c =
     let after : NetSeen = record { faults = g.N.Net.faults c.back.new.self; bad = g.N.Net.bad c.back.new.self; ended = g.N.Net.ended c.back.new.self } in
     works c.args.who.now.clerk c.args.boot c.in-Ok.made.0 c.in-Ok.made.1.items c.args.lanes.items before called mid after
     (g.N.Link.Link.faults link) (g.N.Link.Link.closes link) (seen c.in-Ok-call.link) (seen link) c.in-Ok.ensures.ok c.in-Ok-call.ensures.link.2 c.in-Ok-call.ensures.link.3 refl
-    c.in-Ok-call.ensures.same c.in-Ok-back.ensures.bad c.in-Ok-back.ensures.ended (work.seen c.in-Some.answers) c.in-Some.ensures.works
+    c.in-Ok-call.ensures.same c.in-Ok-back.ensures.bad c.in-Ok-back.ensures.ended (work.given_of c.in-Some.answers) c.in-Some.ensures.works

@@ -1,10 +1,10 @@
 use Rattle.std.proofs.Common.{◌≡◌, drop}
-use Rattle.ec_report.specs.Index.{Agrees}
+use Rattle.ec_report.specs.Index.{HaveSameMentions}
 use Rattle.ec_report.specs.Report.{pairs_of, clear}
 use Rattle.ec_report.proofs.maps.forget_all.Given as goal
 
 abbrev pub invariant-loop-obj : goal.invariant-loop-obj
 invariant-loop-obj l = record {
-  agrees : Agrees l.rows l.places;
+  agrees : HaveSameMentions l.rows l.places;
   owed : clear (drop l.obj-index l.touched) (pairs_of l.rows) ≡ clear l.touched (pairs_of l.fn.rows);
 }

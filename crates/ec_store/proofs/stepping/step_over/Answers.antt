@@ -1,12 +1,12 @@
 use Rattle.std.proofs.Common.{◌≡◌, Ok, ap, sym, subst, ◌∙◌}
 use Rattle.ec_durable.specs.Durable.{step}
-use Rattle.ec_durable.specs.Steps.{Refuses}
+use Rattle.ec_durable.specs.Steps.{RefusesRecord}
 use Rattle.ec_durable.proofs.Batches.{not_Ok}
 use Rattle.ec_store.specs.Stepping.{behind, with_volume}
 use Rattle.ec_store.proofs.stepping.step_over.Goals as goal
 
 pub returns-in-Err-clause-refused : goal.returns-in-Err-clause-refused
-returns-in-Err-clause-refused c = subst (λ es. Refuses c.in-Err.fault (step c.args.trial.now (with_volume es c.args.state.now))) c.replace-volume.ensures.after c.in-Err.ensures.refused
+returns-in-Err-clause-refused c = subst (λ es. RefusesRecord c.in-Err.fault (step c.args.trial.now (with_volume es c.args.state.now))) c.replace-volume.ensures.after c.in-Err.ensures.refused
 
 pub returns-in-Ok-clause-ok : goal.returns-in-Ok-clause-ok
 returns-in-Ok-clause-ok c =

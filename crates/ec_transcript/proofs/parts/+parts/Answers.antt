@@ -2,7 +2,7 @@ use Rattle.std.proofs.Common.{◌≡◌, ◌+◌, ◌++◌, sym, ap, subst, ◌�
 use Rattle.std.specs.Prelude.{Err}
 use Rattle.std.proofs.lemmas.Result.{err_from_is_err_and}
 use Rattle.ec_transcript.specs.declared.lines.ReadFault.TheVariants as fault
-use Rattle.ec_transcript.specs.LinesRead.{IsRead, HasBadLine}
+use Rattle.ec_transcript.specs.LinesRead.{TranscriptIsRead, HasBadLine}
 use Rattle.ec_transcript.proofs.Halves.{read-both, above-fault, bad-below, bad-few, if-ok, ok-of, err-of}
 use Rattle.ec_transcript.proofs.parts.+parts.Goals as goal
 
@@ -11,10 +11,10 @@ returns-in-Ok-clause-read g t c =
     let bs = c.args.bytes.now in
     let front = c.cut.result.0.now in
     let back = c.cut.result.1.now in
-    let above = ok-of (λ v. IsRead front v.items) c.join-above.result.0 c.in_ok-lines.lines c.in_ok-lines.was c.join-above.ensures.first.0 in
-    let below = ok-of (λ v. IsRead back v.items) c.join-above.result.1 c.in-Ok.more c.in-Ok.is c.join-above.ensures.second.0 in
-    if-ok (λ v. v.items ≡ c.in_ok-lines.lines.items ++ c.in-Ok.more.items) (λ v. IsRead bs v.items) c.append.result
-    (λ v e. subst (IsRead bs) (sym e) (read-both bs front back c.in_ok-lines.lines.items c.in-Ok.more.items c.cut.ensures.lines c.cut.ensures.bytes above below))
+    let above = ok-of (λ v. TranscriptIsRead front v.items) c.join-above.result.0 c.in_ok-lines.lines c.in_ok-lines.was c.join-above.ensures.first.0 in
+    let below = ok-of (λ v. TranscriptIsRead back v.items) c.join-above.result.1 c.in-Ok.more c.in-Ok.is c.join-above.ensures.second.0 in
+    if-ok (λ v. v.items ≡ c.in_ok-lines.lines.items ++ c.in-Ok.more.items) (λ v. TranscriptIsRead bs v.items) c.append.result
+    (λ v e. subst (TranscriptIsRead bs) (sym e) (read-both bs front back c.in_ok-lines.lines.items c.in-Ok.more.items c.cut.ensures.lines c.cut.ensures.bytes above below))
     c.append.ensures.items
 
 pub returns-in_err-lines-clause-fault : goal.returns-in_err-lines-clause-fault
@@ -29,7 +29,7 @@ overflow_add-result g t c =
     let bs = c.args.bytes.now in
     let front = c.cut.result.0.now in
     let back = c.cut.result.1.now in
-    let above = ok-of (λ v. IsRead front v.items) c.join-above.result.0 c.in_ok-lines.lines c.in_ok-lines.was c.join-above.ensures.first.0 in
+    let above = ok-of (λ v. TranscriptIsRead front v.items) c.join-above.result.0 c.in_ok-lines.lines c.in_ok-lines.was c.join-above.ensures.first.0 in
     let is : c.join-above.result.1 ≡ Err (fault.BadLine c.in-Err-BadLine.number c.in-Err-BadLine.column) = search rules in
     let bad = err-of (HasBadLine back) c.join-above.result.1 (fault.BadLine c.in-Err-BadLine.number c.in-Err-BadLine.column) is c.join-above.ensures.second.1 in
     let long : length bs ≡ length front + length back = ap length c.cut.ensures.bytes ∙ length-append front back in
@@ -41,7 +41,7 @@ returns-in-Err-BadLine-clause-fault g t c =
     let front = c.cut.result.0.now in
     let back = c.cut.result.1.now in
     let lines = c.in_ok-lines.lines.items in
-    let above = ok-of (λ v. IsRead front v.items) c.join-above.result.0 c.in_ok-lines.lines c.in_ok-lines.was c.join-above.ensures.first.0 in
+    let above = ok-of (λ v. TranscriptIsRead front v.items) c.join-above.result.0 c.in_ok-lines.lines c.in_ok-lines.was c.join-above.ensures.first.0 in
     let is : c.join-above.result.1 ≡ Err (fault.BadLine c.in-Err-BadLine.number c.in-Err-BadLine.column) = search rules in
     let bad = err-of (HasBadLine back) c.join-above.result.1 (fault.BadLine c.in-Err-BadLine.number c.in-Err-BadLine.column) is c.join-above.ensures.second.1 in
     let sum : c.len.result + c.in-Err-BadLine.number ≡ length lines + c.in-Err-BadLine.number = omega (arith, c.len.ensures) in

@@ -1,7 +1,7 @@
 use Rattle.std.proofs.Common.{◌+◌, ◌∙◌, refl, subst, arith, sym, [], ◌∷◌}
 use Rattle.ec_clerknode.specs.declared.clerk.Refused.TheVariants as refused
 use Rattle.ec_clerknode.specs.Folded.{begun}
-use Rattle.ec_clerknode.specs.FoldedAnswers.{Refuses}
+use Rattle.ec_clerknode.specs.FoldedAnswers.{RefusesStep as Refuses}
 use Rattle.ec_clerknode.proofs.Acts.{began, not_begun}
 use Rattle.ec_clerknode.specs.Closed.{Fails}
 use Rattle.ec_clerknode.proofs.Nodes.{follows_alone, falls, nothing_came}

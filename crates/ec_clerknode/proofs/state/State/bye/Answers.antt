@@ -4,7 +4,7 @@ use Rattle.ec_outs.specs.Outs.{sends}
 use Rattle.ec_outs.proofs.Told.{added-nil}
 use Rattle.ec_clerknode.specs.Closed.{Fails}
 use Rattle.ec_clerknode.specs.Folded.{parted}
-use Rattle.ec_clerknode.specs.FoldedAnswers.{Comes}
+use Rattle.ec_clerknode.specs.FoldedAnswers.{ComesOut as Comes}
 use Rattle.ec_clerknode.specs.Run.{says_bye}
 use Rattle.ec_clerknode.proofs.Acts.{left}
 use Rattle.ec_clerknode.proofs.Nodes.{follows_alone, read_none, falls, nothing_came}

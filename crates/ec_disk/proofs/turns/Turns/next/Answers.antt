@@ -1,7 +1,7 @@
 use Rattle.std.proofs.Common.{◌≤◌, ◌∙◌, ap, sym, subst}
 use Rattle.std.specs.Prelude.{IsSome}
 use Rattle.ec_disk.specs.declared.turns.Turns.{Turns}
-use Rattle.ec_disk.specs.Effects.{IsOver}
+use Rattle.ec_disk.specs.Effects.{IsUnarmed}
 use Rattle.ec_disk.specs.Turns.{faults_after, stops_after}
 use Rattle.ec_disk.proofs.TurnLaws.{counted, stops_where_due, due_armed, due_over, less_armed, less_over}
 use Rattle.ec_disk.proofs.turns.Turns.next.Goals as goal
@@ -13,5 +13,5 @@ returns-clause-counts c =
     (subst (λ (t : Turns). t.faults ≤ c.count.new.self.faults) after c.count.ensures.later.0) (subst (λ (t : Turns). t.stops ≤ c.count.new.self.stops) after c.count.ensures.later.1)
     (λ is. due_armed _ (sym c.count_down-is_due.ensures.due ∙ stops_where_due _ _ (sym c.count.ensures.turn ∙ is)))
     (λ is. less_armed _ (subst IsSome (c.count.ensures.armed ∙ ap (λ (t : Turns). t.armed) after) is))
-    (λ over. subst IsOver (sym (c.count.ensures.armed ∙ ap (λ (t : Turns). t.armed) after)) (less_over _ over))
-    (λ is. subst IsOver (sym (c.count.ensures.armed ∙ ap (λ (t : Turns). t.armed) after)) (due_over _ (sym c.count_down-is_due.ensures.due ∙ stops_where_due _ _ (sym c.count.ensures.turn ∙ is))))
+    (λ over. subst IsUnarmed (sym (c.count.ensures.armed ∙ ap (λ (t : Turns). t.armed) after)) (less_over _ over))
+    (λ is. subst IsUnarmed (sym (c.count.ensures.armed ∙ ap (λ (t : Turns). t.armed) after)) (due_over _ (sym c.count_down-is_due.ensures.due ∙ stops_where_due _ _ (sym c.count.ensures.turn ∙ is))))

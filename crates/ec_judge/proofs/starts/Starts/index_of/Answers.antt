@@ -4,7 +4,7 @@ use Rattle.ec_numbers.specs.Starts.{indexed}
 use Rattle.ec_pending.specs.declared.issue.Issue.{Issue}
 use Rattle.ec_judge.specs.declared.carried.Start.{Start}
 use Rattle.ec_judge.specs.Carried.{is_start, count_of, owed_of, pending_of}
-use Rattle.ec_judge.specs.Index.{IsIndex}
+use Rattle.ec_judge.specs.Index.{IsStartIndex}
 use Rattle.ec_judge.proofs.AllStarts.{found-more}
 use Rattle.ec_judge.proofs.Places.{index-push, place-new}
 use Rattle.ec_judge.proofs.starts.Starts.index_of.Goals as goal
@@ -13,7 +13,7 @@ pub invariant_of-self-2 : goal.invariant_of-self-2
 invariant_of-self-2 c =
     let ss = c.self.inside.items.items in
     let s : Start = record { clerk = c.args.clerk; boot = c.args.boot; owed = c.new.result; pending = c.in_ok-new.field-0 } in
-    subst (IsIndex (indexed c.note_start.new.index)) (sym (c.push.ensures ∙ ap (λ l. l ++ s ∷ []) c.reserve.ensures.items))
+    subst (IsStartIndex (indexed c.note_start.new.index)) (sym (c.push.ensures ∙ ap (λ l. l ++ s ∷ []) c.reserve.ensures.items))
     (index-push (indexed c.self.inside.index) (indexed c.note_start.new.index) ss c.self.invariant c.args.clerk c.args.boot c.len-at.result s (sym c.find_start.ensures ∙ c.in_default.is) (c.len-at.ensures ∙ c.reserve.new.self.ok.0 ∙ ap length c.reserve.ensures.items) refl refl c.in_ok-note_start.ensures.ok)
 
 pub returns-clause-found : goal.returns-clause-found

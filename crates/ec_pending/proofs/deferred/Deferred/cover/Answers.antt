@@ -1,5 +1,5 @@
 use Rattle.std.proofs.Common.{rules, ◌∙◌, ℕ, List, sym, ap, subst}
-use Rattle.ec_pending.specs.Deferred.{behind, AreAbove}
+use Rattle.ec_pending.specs.Deferred.{behind_notes, AreAbove}
 use Rattle.ec_pending.specs.Pending.{is_asked, rest}
 use Rattle.ec_pending.specs.declared.issue.Issue.{Issue}
 use Rattle.ec_pending.specs.declared.note.Note.TheVariants as note
@@ -18,5 +18,5 @@ pub returns : goal.returns
 returns c =
     let a = c.args.asked.now in
     let is = c.self.inside.pending.1 in
-    ap (pair c.self.inside.count) (ap (λ ns. behind ns is) c.in_ok-push.ensures.items ∙ behind-more c.self.inside.notes.items (note.Cover a) is)
+    ap (pair c.self.inside.count) (ap (λ ns. behind_notes ns is) c.in_ok-push.ensures.items ∙ behind-more c.self.inside.notes.items (note.Cover a) is)
     ∙ ap (λ (v : ℕ × List Issue). pair v.0 (rest (is_asked a) v.1)) c.self.view_is

@@ -1,5 +1,5 @@
 use Rattle.std.proofs.Common.{◌∙◌, ◌++◌, ◌∷◌, [], ℕ, List, Some, refl, sym, ap, subst}
-use Rattle.ec_pending.specs.Deferred.{behind, AreAbove, AreLate}
+use Rattle.ec_pending.specs.Deferred.{behind_notes, AreAbove, AreLate}
 use Rattle.ec_pending.specs.Pending.{issues_of}
 use Rattle.ec_pending.specs.declared.issue.Issue.{Issue}
 use Rattle.ec_pending.specs.declared.note.Note.TheVariants as note
@@ -29,9 +29,9 @@ pub returns : goal.returns
 returns c =
     let is = c.self.inside.pending.1 in
     let now = c.args.self.now in
-    ap (λ n. pair n (behind c.push.new.self.items is)) c.op-2.view_is
+    ap (λ n. pair n (behind_notes c.push.new.self.items is)) c.op-2.view_is
     ∙ ap (pair c.args.op)
-    (ap (λ ns. behind ns is) c.in_ok-push.ensures.items
+    (ap (λ ns. behind_notes ns is) c.in_ok-push.ensures.items
     ∙ behind-more c.self.inside.notes.items (note.Issue c.args.op c.args.place c.in_ok-update.update) is
     ∙ ap (λ (v : ℕ × List Issue). v.1 ++ issues_of c.args.place (Some c.args.op) (Some c.in_ok-update.update.value)) c.self.view_is
     ∙ ap (λ w. now.1 ++ issues_of c.args.place (Some c.args.op) (Some w)) c.in_ok-update.ensures.ok

@@ -2,7 +2,7 @@ use Rattle.std.proofs.Common.{subst}
 use Rattle.ec_protocol.specs.Server as machine
 use Rattle.ec_once.specs.SafeServers.{IsSafe}
 use Rattle.ec_once.proofs.Steps.{start-safe}
-use Rattle.ec_server.specs.CallLaws.{answered, record_by, once_by}
+use Rattle.ec_server.specs.CallLaws.{call_answered, record_by, once_by}
 use Rattle.ec_server.specs.Clerks.{HaveClerks}
 use Rattle.ec_server.specs.ServeLaws.{start_goes}
 use Rattle.ec_server.specs.Steps.{server}
@@ -11,7 +11,7 @@ use Rattle.ec_server.proofs.server.Server.start.Goals as goal
 pub returns-clause-ok : goal.returns-clause-ok
 returns-clause-ok g c =
     let e = g.K.Keeper.kept c.start.new.keeper in
-    answered (machine.start (g.K.Keeper.kept c.args.keeper.now)) e c.start.new.self c.served-served.new.self c.served-served.result c.in_ok-start.ensures.ok (c.served-served.ensures.same e) c.served-served.ensures.sent c.served-served.ensures.rec
+    call_answered (machine.start (g.K.Keeper.kept c.args.keeper.now)) e c.start.new.self c.served-served.new.self c.served-served.result c.in_ok-start.ensures.ok (c.served-served.ensures.same e) c.served-served.ensures.sent c.served-served.ensures.rec
 
 pub returns-clause-stands : goal.returns-clause-stands
 returns-clause-stands g c = λ up. subst (λ (t : machine.Serving). HaveClerks t.server) (returns-clause-ok g c) (start_goes (g.K.Keeper.kept c.args.keeper.now)).clerks

@@ -1,5 +1,5 @@
 use Rattle.std.proofs.Common.{◌∙◌}
-use Rattle.ec_server.specs.KeeperLaws.{finish_takes, commits, hurts, late}
+use Rattle.ec_server.specs.KeeperLaws.{finish_takes, commits, hurts, late_want}
 use Rattle.std.proofs.lemmas.Result.{err_from_is_err_and}
 use Rattle.ec_server.specs.Laws.{finishes}
 use Rattle.ec_server.proofs.state.Core.finish.Goals as goal
@@ -28,7 +28,7 @@ returns-in_err-tell-clause-keeper g c =
     let e = kept c.commit.new.keeper in
     let p = err_from_is_err_and c.from_residual-in_err-tell.result c.from_residual-in_err-tell.ensures.1 in
     rw (p.1, p.2)
-    (late g.K.Keeper.did g.K.Keeper.broke _ _ d e c.args.self.now c.commit.new.self _ _ _ c.args.keeper.now c.commit.new.keeper c.if-branch.true c.in_ok-commit.ensures.ok c.in_ok-commit.ensures.did
+    (late_want g.K.Keeper.did g.K.Keeper.broke _ _ d e c.args.self.now c.commit.new.self _ _ _ c.args.keeper.now c.commit.new.keeper c.if-branch.true c.in_ok-commit.ensures.ok c.in_ok-commit.ensures.did
     (λ is. finish_takes c.args.clerk l.0 _ d e c.args.self.now l.1 l.2 is))
 
 pub returns-in_ok-tell-clause-did : goal.returns-in_ok-tell-clause-did

@@ -1,4 +1,4 @@
-use Rattle.ec_server.specs.KeeperLaws.{flush_takes_by, flush_ends, commits, hurts, hurts_refused, late}
+use Rattle.ec_server.specs.KeeperLaws.{flush_takes_by, flush_ends, commits, hurts, hurts_refused, late_want}
 use Rattle.ec_server.specs.Keepers.{Hurts, HasNumbers}
 use Rattle.std.proofs.Common.{inl}
 use Rattle.std.specs.Prelude.{IfErr}
@@ -45,7 +45,7 @@ returns-in_err-tell-2-clause-keeper g c =
     let may = ap (machine.may_write c.args.self.now.tokens c.args.session) (sym c.as_slice.ensures) ∙ sym c.in_ok-may_write.ensures ∙ c.if-not-branch.false in
     let p = err_from_is_err_and c.from_residual-in_err-tell-2.result c.from_residual-in_err-tell-2.ensures.1 in
     rw (p.1, p.2)
-    (late g.K.Keeper.did g.K.Keeper.broke _ _ d e c.args.self.now c.commit.new.self _ _ _ c.args.keeper.now c.commit.new.keeper c.if-not-branch-2.false c.in_ok-commit.ensures.ok c.in_ok-commit.ensures.did
+    (late_want g.K.Keeper.did g.K.Keeper.broke _ _ d e c.args.self.now c.commit.new.self _ _ _ c.args.keeper.now c.commit.new.keeper c.if-not-branch-2.false c.in_ok-commit.ensures.ok c.in_ok-commit.ensures.did
     (λ is. flush_takes_by c.args.clerk c.args.session c.args.batch _ c.args.ops.now d e c.args.self.now c.in_ok-duplicate.ensures (sym c.is_done.ensures ∙ c.if-is_done.false) may is))
 
 pub returns-then-not-branch-clause-keeper : goal.returns-then-not-branch-clause-keeper

@@ -1,4 +1,4 @@
-use Rattle.ec_server.specs.KeeperLaws.{grant_takes, commits, hurts, late}
+use Rattle.ec_server.specs.KeeperLaws.{grant_takes, commits, hurts, late_want}
 use Rattle.std.proofs.lemmas.Result.{err_from_is_err_and}
 use Rattle.std.proofs.Common.{ap, sym, ◌∙◌}
 use Rattle.ec_wire.specs.declared.msg.Msg.{Msg}
@@ -34,7 +34,7 @@ returns-in_err-record_ids-clause-keeper g c =
     let e = kept c.commit.new.keeper in
     let p = err_from_is_err_and c.from_residual-in_err-record_ids.result c.from_residual-in_err-record_ids.ensures.1 in
     rw (p.1, p.2)
-    (late g.K.Keeper.did g.K.Keeper.broke _ _ d e c.args.self.now c.commit.new.self _ _ _ c.args.keeper.now c.commit.new.keeper c.if-branch.true c.in_ok-commit.ensures.ok c.in_ok-commit.ensures.did
+    (late_want g.K.Keeper.did g.K.Keeper.broke _ _ d e c.args.self.now c.commit.new.self _ _ _ c.args.keeper.now c.commit.new.keeper c.if-branch.true c.in_ok-commit.ensures.ok c.in_ok-commit.ensures.did
     (λ is. grant_takes c.args.clerk c.args.session c.args.got c.args.ask _ d e c.args.self.now (sym c.is_full.ensures ∙ c.if-is_full.false) c.in-Some.ensures.next.1 c.in-Some.ensures.next.0 is))
 
 pub returns-in_err-send_ids-clause-keeper : goal.returns-in_err-send_ids-clause-keeper
@@ -44,7 +44,7 @@ returns-in_err-send_ids-clause-keeper g c =
     let e = kept c.commit.new.keeper in
     let p = err_from_is_err_and c.from_residual-in_err-send_ids.result c.from_residual-in_err-send_ids.ensures.1 in
     rw (p.1, p.2)
-    (late g.K.Keeper.did g.K.Keeper.broke _ _ d e c.args.self.now c.commit.new.self _ _ _ c.args.keeper.now c.commit.new.keeper c.if-branch.true c.in_ok-commit.ensures.ok c.in_ok-commit.ensures.did
+    (late_want g.K.Keeper.did g.K.Keeper.broke _ _ d e c.args.self.now c.commit.new.self _ _ _ c.args.keeper.now c.commit.new.keeper c.if-branch.true c.in_ok-commit.ensures.ok c.in_ok-commit.ensures.did
     (λ is. grant_takes c.args.clerk c.args.session c.args.got c.args.ask _ d e c.args.self.now (sym c.is_full.ensures ∙ c.if-is_full.false) c.in-Some.ensures.next.1 c.in-Some.ensures.next.0 is))
 
 pub returns-in_ok-send_ids-clause-did : goal.returns-in_ok-send_ids-clause-did

@@ -1,5 +1,5 @@
 use Rattle.std.proofs.Common.{◌∙◌}
-use Rattle.ec_server.specs.KeeperLaws.{open_takes, commits, hurts, late}
+use Rattle.ec_server.specs.KeeperLaws.{open_takes, commits, hurts, late_want}
 use Rattle.std.proofs.lemmas.Result.{err_from_is_err_and}
 use Rattle.ec_server.specs.Laws.{opened}
 use Rattle.ec_server.proofs.state.Core.open_new.Goals as goal
@@ -25,7 +25,7 @@ returns-in_err-add_claimed-clause-keeper g c =
     let e = kept c.commit.new.keeper in
     let p = err_from_is_err_and c.from_residual-in_err-add_claimed.result c.from_residual-in_err-add_claimed.ensures.1 in
     rw (p.1, p.2)
-    (late g.K.Keeper.did g.K.Keeper.broke _ _ d e c.args.self.now c.commit.new.self _ _ _ c.args.keeper.now c.commit.new.keeper c.if-branch.true c.in_ok-commit.ensures.ok c.in_ok-commit.ensures.did
+    (late_want g.K.Keeper.did g.K.Keeper.broke _ _ d e c.args.self.now c.commit.new.self _ _ _ c.args.keeper.now c.commit.new.keeper c.if-branch.true c.in_ok-commit.ensures.ok c.in_ok-commit.ensures.did
     (λ is. open_takes c.args.clerk c.args.age _ c.args.old d e c.args.self.now c.next_session.ensures c.if-session-ge-LAST_COUNTER.false is))
 
 pub returns-in_err-tell-clause-keeper : goal.returns-in_err-tell-clause-keeper
@@ -35,7 +35,7 @@ returns-in_err-tell-clause-keeper g c =
     let e = kept c.commit.new.keeper in
     let p = err_from_is_err_and c.from_residual-in_err-tell.result c.from_residual-in_err-tell.ensures.1 in
     rw (p.1, p.2)
-    (late g.K.Keeper.did g.K.Keeper.broke _ _ d e c.args.self.now c.commit.new.self _ _ _ c.args.keeper.now c.commit.new.keeper c.if-branch.true c.in_ok-commit.ensures.ok c.in_ok-commit.ensures.did
+    (late_want g.K.Keeper.did g.K.Keeper.broke _ _ d e c.args.self.now c.commit.new.self _ _ _ c.args.keeper.now c.commit.new.keeper c.if-branch.true c.in_ok-commit.ensures.ok c.in_ok-commit.ensures.did
     (λ is. open_takes c.args.clerk c.args.age _ c.args.old d e c.args.self.now c.next_session.ensures c.if-session-ge-LAST_COUNTER.false is))
 
 pub returns-in_ok-tell-clause-did : goal.returns-in_ok-tell-clause-did

@@ -1,7 +1,7 @@
 use Rattle.std.proofs.Common.{sym, ap, ◌∙◌, subst}
 use Rattle.ec_lock.specs.PassViews.{first, front}
 use Rattle.ec_servernode.specs.Run.{caller_by}
-use Rattle.ec_servernode.specs.TurnSteps.{Ends, RunsFrom}
+use Rattle.ec_servernode.specs.TurnSteps.{EndsTurn, RunsFrom}
 use Rattle.ec_servernode.proofs.Served.{ends_more, own_only, grown, ends, pass_is, since_of}
 use Rattle.ec_servernode.proofs.Fronts.{goes, same_both}
 use Rattle.ec_servernode.proofs.Safe.{runs-safe}
@@ -56,7 +56,7 @@ returns-clause-ends g c =
     let w = c.end-told.new.self in
     let since = c.end-told.ensures.keeps (first c.args.self.now.lock) c.enter-turn.ensures.since in
     ends pass.number (front pass) (front c.leave.new.pass) v w c.enter-turn.ensures.later (c.enter-turn.ensures.own pass.number c.requires.pass.is_pass.1) (sym c.leave.ensures.front) since.halt_is c.args.clerk c.end-told.result
-    (subst (λ n. Ends n c.args.clerk v w c.end-told.result) c.number-number.ensures c.end-told.ensures.ends)
+    (subst (λ n. EndsTurn n c.args.clerk v w c.end-told.result) c.number-number.ensures c.end-told.ensures.ends)
 
 pub returns-clause-safe : goal.returns-clause-safe
 returns-clause-safe g c =

@@ -1,7 +1,7 @@
 use Rattle.std.proofs.Common.{Ok, Err, sym, ap, ◌∙◌, subst, rules}
 use Rattle.ec_lock.specs.PassViews.{front}
 use Rattle.ec_wire.specs.Codes.{said}
-use Rattle.ec_wire.specs.CodeAnswers.{Answers}
+use Rattle.ec_wire.specs.CodeAnswers.{ReadsMessage}
 use Rattle.ec_servernode.specs.declared.fault.ServeFault.{ServeFault}
 use Rattle.ec_servernode.specs.declared.shared.Turned.{Turned}
 use Rattle.ec_servernode.specs.TurnSteps.{HearFails, TakesMessage, Looked}
@@ -25,5 +25,5 @@ returns-in-Err-clause-hears g c =
     let pass = c.args.pass.now.pass in
     let old = front pass in
     let new = front c.unless_down.new.pass.pass in
-    refused pass.number c.args.body.now.items c.in-Err.fault old new c.unless_down.result (subst (Answers (Err c.in-Err.fault)) (ap said c.deref.ensures.value) c.in-Err.ensures.exact)
+    refused pass.number c.args.body.now.items c.in-Err.fault old new c.unless_down.result (subst (ReadsMessage (Err c.in-Err.fault)) (ap said c.deref.ensures.value) c.in-Err.ensures.exact)
     (subst (λ (f : ServeFault). Looked {A = Turned} pass.number old new (Err f) c.unless_down.result) c.refused.ensures c.unless_down.ensures.looked)

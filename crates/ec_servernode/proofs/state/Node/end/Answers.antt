@@ -1,7 +1,7 @@
 use Rattle.std.proofs.Common.{true, refl, sym, ◌∙◌, rules}
 use Rattle.ec_servernode.specs.declared.step.Deed.TheVariants.{Ended, HaltedEnd}
 use Rattle.ec_servernode.specs.declared.step.Step.{Step}
-use Rattle.ec_servernode.specs.Folded.{ended}
+use Rattle.ec_servernode.specs.Folded.{session_ended}
 use Rattle.ec_servernode.specs.Node.{state_of}
 use Rattle.ec_servernode.proofs.Nodes.{ended_so, stopped, broke, halting_end, in_doubt}
 use Rattle.ec_servernode.proofs.Ends.{no_fault_up, same_caller, no_more, grew_ends, stop_ends, check_ends}
@@ -62,7 +62,7 @@ pub returns-in-None-clause-keeps : goal.returns-in-None-clause-keeps
 returns-in-None-clause-keeps g c =
     broke g.K.Keeper.kept g.K.Keeper.counts g.K.Keeper.did g.K.Keeper.broke c.args.self.now (record c.args.self.now { server = c.end.new.server; keeper = c.end.new.keeper; broken = true }) c.end.new.server c.end.new.keeper c.in_ok-check.ensures.ok.0
     (no_fault_up _ _ _ _ c.end.ensures.counts) c.end.ensures.stands c.in_ok-check.ensures.ok.1
-    (in_doubt g.K.Keeper.kept g.K.Keeper.counts g.K.Keeper.did g.K.Keeper.broke c.in-Err.fault (ended c.args.clerk (state_of g.K.Keeper.kept c.args.self.now)) c.args.self.now.keeper c.end.new.keeper c.in-Err.ensures.hurts) refl
+    (in_doubt g.K.Keeper.kept g.K.Keeper.counts g.K.Keeper.did g.K.Keeper.broke c.in-Err.fault (session_ended c.args.clerk (state_of g.K.Keeper.kept c.args.self.now)) c.args.self.now.keeper c.end.new.keeper c.in-Err.ensures.hurts) refl
 
 pub returns-in-None-clause-ends : goal.returns-in-None-clause-ends
 returns-in-None-clause-ends g c = no_more c.args.pass c.args.self.now (record c.args.self.now { server = c.end.new.server; keeper = c.end.new.keeper; broken = true }) refl

@@ -1,5 +1,5 @@
 use Rattle.std.proofs.Common.{◌≡◌, ◌⊎◌, [], Some, false, refl, sym, ap, subst, ◌∙◌, length, inl, arith, rules}
-use Rattle.ec_servernode.specs.Callers.{IsRefusal, answered, msg_of}
+use Rattle.ec_servernode.specs.Callers.{IsRefusal, refusal_sent, msg_of}
 use Rattle.ec_servernode.specs.declared.step.Deed.TheVariants.{Refused}
 use Rattle.ec_servernode.specs.declared.step.Step.{Step}
 use Rattle.ec_servernode.specs.Run.{caller_by}
@@ -23,7 +23,7 @@ returns-in-Done-clause-gives g c =
 pub returns-in-Done-clause-caller : goal.returns-in-Done-clause-caller
 returns-in-Done-clause-caller g c =
     let x : Step = record { pass = c.args.pass; deed = Refused c.of.result } in
-    ap (caller_by c.args.pass) c.add.ensures.list ∙ (caller-push c.args.pass c.args.self.now.trace.items x refl ∙ ap answered (sym c.requires.caller))
+    ap (caller_by c.args.pass) c.add.ensures.list ∙ (caller-push c.args.pass c.args.self.now.trace.items x refl ∙ ap refusal_sent (sym c.requires.caller))
 
 pub returns-in-Done-clause-counts : goal.returns-in-Done-clause-counts
 returns-in-Done-clause-counts g c = (grows _ _ _ c.send_one.ensures.faults, c.send_one.ensures.closes)

@@ -1,7 +1,7 @@
 use Rattle.std.proofs.Common.{true, refl, sym, ◌∙◌, rules}
 use Rattle.ec_servernode.specs.declared.step.Deed.TheVariants.{Halted}
 use Rattle.ec_servernode.specs.declared.step.Step.{Step}
-use Rattle.ec_servernode.specs.Folded.{taken}
+use Rattle.ec_servernode.specs.Folded.{message_taken}
 use Rattle.ec_servernode.specs.Node.{state_of}
 use Rattle.ec_servernode.proofs.Nodes.{took, stopped, broke, halting, in_doubt}
 use Rattle.ec_servernode.proofs.Ends.{no_fault_up, same_caller, next_caller, no_more, grew_takes, stop_fails, check_takes}
@@ -64,7 +64,7 @@ pub returns-in-None-clause-keeps : goal.returns-in-None-clause-keeps
 returns-in-None-clause-keeps g c =
     broke g.K.Keeper.kept g.K.Keeper.counts g.K.Keeper.did g.K.Keeper.broke c.args.self.now (record c.args.self.now { server = c.take.new.server; keeper = c.take.new.keeper; broken = true }) c.take.new.server c.take.new.keeper c.in_ok-check.ensures.ok.0
     (no_fault_up _ _ _ _ c.take.ensures.counts) c.take.ensures.stands c.in_ok-check.ensures.ok.1
-    (in_doubt g.K.Keeper.kept g.K.Keeper.counts g.K.Keeper.did g.K.Keeper.broke c.in-Err.fault (taken c.args.from c.args.msg.now (state_of g.K.Keeper.kept c.args.self.now)) c.args.self.now.keeper c.take.new.keeper c.in-Err.ensures.hurts) refl
+    (in_doubt g.K.Keeper.kept g.K.Keeper.counts g.K.Keeper.did g.K.Keeper.broke c.in-Err.fault (message_taken c.args.from c.args.msg.now (state_of g.K.Keeper.kept c.args.self.now)) c.args.self.now.keeper c.take.new.keeper c.in-Err.ensures.hurts) refl
 
 pub returns-in-None-clause-takes : goal.returns-in-None-clause-takes
 returns-in-None-clause-takes g c = no_more c.args.pass c.args.self.now (record c.args.self.now { server = c.take.new.server; keeper = c.take.new.keeper; broken = true }) refl

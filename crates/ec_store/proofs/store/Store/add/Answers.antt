@@ -7,7 +7,7 @@ use Rattle.ec_durable.proofs.Kept.{below_kept, step_kept}
 use Rattle.ec_store.specs.Places.{ArePlaces}
 use Rattle.ec_layout.proofs.Calls.{turns_none, turns_within}
 use Rattle.ec_stands.specs.Stands.{StandsFor}
-use Rattle.ec_store.specs.Store.{Holds, StandsForEither}
+use Rattle.ec_store.specs.Store.{StoreHolds, StandsForEither}
 use Rattle.ec_store.specs.declared.fault.StoreFault.TheVariants as fault
 use Rattle.ec_store.proofs.Members.{left_kept}
 use Rattle.ec_store.proofs.Images.{step_most}
@@ -79,7 +79,7 @@ pub returns-in_err-step-clause-old : goal.returns-in_err-step-clause-old
 returns-in_err-step-clause-old g c =
     let s = c.args.self.now in
     let now = g.D.Disk.view c.args.disk.now in
-    let stands : g.D.Disk.tells → Holds now s.selected s.named.items s.kept s.state → StandsFor now.synced s.state = λ told held. held_stands now s.selected s.named.items s.kept s.state held now.synced (g.met.D.Disk.given_synced told c.args.disk.now) in
+    let stands : g.D.Disk.tells → StoreHolds now s.selected s.named.items s.kept s.state → StandsFor now.synced s.state = λ told held. held_stands now s.selected s.named.items s.kept s.state held now.synced (g.met.D.Disk.given_synced told c.args.disk.now) in
     search (rules, stands)
 
 pub returns-in_err-append-clause-no_memory : goal.returns-in_err-append-clause-no_memory
@@ -92,5 +92,5 @@ returns-in_err-append-clause-old g c =
     let s = c.args.self.now in
     let now = g.D.Disk.view c.args.disk.now in
     let new = g.D.Disk.view c.append.new.disk in
-    let stands : g.D.Disk.tells → Holds now s.selected s.named.items s.kept s.state → StandsFor new.synced s.state = λ told held. held_lies now s.selected s.named.items s.kept s.state held new.synced (λ l on. c.in_err-append.ensures.old told l on) in
+    let stands : g.D.Disk.tells → StoreHolds now s.selected s.named.items s.kept s.state → StandsFor new.synced s.state = λ told held. held_lies now s.selected s.named.items s.kept s.state held new.synced (λ l on. c.in_err-append.ensures.old told l on) in
     search (rules, stands)

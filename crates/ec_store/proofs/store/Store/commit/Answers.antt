@@ -5,7 +5,7 @@ use Rattle.ec_layout.specs.Selected.{free_now}
 use Rattle.ec_stands.specs.Stands.{StandsFor}
 use Rattle.ec_store.specs.declared.fault.StoreFault.TheVariants as fault
 use Rattle.ec_volume.proofs.Held.{then_ok}
-use Rattle.ec_store.specs.Store.{Holds, StandsForEither}
+use Rattle.ec_store.specs.Store.{StoreHolds, StandsForEither}
 use Rattle.ec_store.proofs.Holding.{leaves_none, held_stands}
 use Rattle.ec_store.proofs.Turning.{commit_none, commit_room, commit_turn}
 use Rattle.ec_store.proofs.store.Store.commit.Goals as goal
@@ -46,7 +46,7 @@ pub returns-in_err-body-clause-old : goal.returns-in_err-body-clause-old
 returns-in_err-body-clause-old g c =
     let s = c.args.self.now in
     let now = g.D.Disk.view c.args.disk.now in
-    let stands : g.D.Disk.tells → Holds now s.selected s.named.items s.kept s.state → StandsFor now.synced s.state = λ told held. held_stands now s.selected s.named.items s.kept s.state held now.synced (g.met.D.Disk.given_synced told c.args.disk.now) in
+    let stands : g.D.Disk.tells → StoreHolds now s.selected s.named.items s.kept s.state → StandsFor now.synced s.state = λ told held. held_stands now s.selected s.named.items s.kept s.state held now.synced (g.met.D.Disk.given_synced told c.args.disk.now) in
     search (rules, stands)
 
 pub returns-in_err-ids-clause-turned : goal.returns-in_err-ids-clause-turned
@@ -57,7 +57,7 @@ pub returns-in_err-ids-clause-old : goal.returns-in_err-ids-clause-old
 returns-in_err-ids-clause-old g c =
     let s = c.args.self.now in
     let now = g.D.Disk.view c.args.disk.now in
-    let stands : g.D.Disk.tells → Holds now s.selected s.named.items s.kept s.state → StandsFor now.synced s.state = λ told held. held_stands now s.selected s.named.items s.kept s.state held now.synced (g.met.D.Disk.given_synced told c.args.disk.now) in
+    let stands : g.D.Disk.tells → StoreHolds now s.selected s.named.items s.kept s.state → StandsFor now.synced s.state = λ told held. held_stands now s.selected s.named.items s.kept s.state held now.synced (g.met.D.Disk.given_synced told c.args.disk.now) in
     search (rules, stands)
 
 pub returns-in_err-entry-clause-any_moment : goal.returns-in_err-entry-clause-any_moment
@@ -74,7 +74,7 @@ pub returns-in_err-entry-clause-old : goal.returns-in_err-entry-clause-old
 returns-in_err-entry-clause-old g c =
     let s = c.args.self.now in
     let now = g.D.Disk.view c.args.disk.now in
-    let stands : g.D.Disk.tells → Holds now s.selected s.named.items s.kept s.state → StandsFor now.synced s.state = λ told held. held_stands now s.selected s.named.items s.kept s.state held now.synced (g.met.D.Disk.given_synced told c.args.disk.now) in
+    let stands : g.D.Disk.tells → StoreHolds now s.selected s.named.items s.kept s.state → StandsFor now.synced s.state = λ told held. held_stands now s.selected s.named.items s.kept s.state held now.synced (g.met.D.Disk.given_synced told c.args.disk.now) in
     search (rules, stands)
 
 pub returns-in_err-plan-clause-turned : goal.returns-in_err-plan-clause-turned
@@ -85,7 +85,7 @@ pub returns-in_err-plan-clause-old : goal.returns-in_err-plan-clause-old
 returns-in_err-plan-clause-old g c =
     let s = c.args.self.now in
     let now = g.D.Disk.view c.args.disk.now in
-    let stands : g.D.Disk.tells → Holds now s.selected s.named.items s.kept s.state → StandsFor now.synced s.state = λ told held. held_stands now s.selected s.named.items s.kept s.state held now.synced (g.met.D.Disk.given_synced told c.args.disk.now) in
+    let stands : g.D.Disk.tells → StoreHolds now s.selected s.named.items s.kept s.state → StandsFor now.synced s.state = λ told held. held_stands now s.selected s.named.items s.kept s.state held now.synced (g.met.D.Disk.given_synced told c.args.disk.now) in
     search (rules, stands)
 
 pub returns-then-has_room-clause-turned : goal.returns-then-has_room-clause-turned

@@ -16,7 +16,7 @@ use Rattle.ec_layout.specs.Pieces.{AreApart, pieces_of}
 use Rattle.ec_layout.specs.Sides.{other}
 use Rattle.ec_layout.specs.Selected.{side_now}
 use Rattle.ec_store.specs.Places.{ArePlaces}
-use Rattle.ec_store.specs.Store.{Holds, StandsForEither}
+use Rattle.ec_store.specs.Store.{StoreHolds, StandsForEither}
 use Rattle.ec_store.proofs.Members.{left_kept, keeps_left}
 use Rattle.ec_store.proofs.Images.{step_most}
 use Rattle.ec_store.proofs.Placing.{placed_keeps}
@@ -225,7 +225,7 @@ returns-in_err-append-clause-old g c =
     let old = g.D.Disk.view c.args.disk.now in
     let mid = g.D.Disk.view c.checkpoint-turned.new.disk in
     let new = g.D.Disk.view c.append.new.disk in
-    let stands : g.D.Disk.tells → Holds old s.selected s.named.items s.kept s.state → StandsFor new.synced s.state = λ told held.
+    let stands : g.D.Disk.tells → StoreHolds old s.selected s.named.items s.kept s.state → StandsFor new.synced s.state = λ told held.
     let there = plan_holds s.state s.named.items p.kept s.order are c.args.plan p.is Two p.spelled p.fits old s.selected s.kept fewer held mid c.checkpoint-turned.new.self (λ l m follows on. c.checkpoint-turned.ensures.done told c.in_default-done.ensures.ok l m (subst (λ t. Follows (other (side_now s.selected)) t (pieces_of c.as_slice.result.now) l m) (sym c.as_slice-2.ensures.value) (subst (λ ps. Follows (other (side_now s.selected)) c.args.plan.table.items (pieces_of ps) l m) (sym c.as_slice.ensures.value) follows)) on) in
     held_lies mid c.checkpoint-turned.new.self c.args.plan.named.items c.args.plan.kept s.state there new.synced (λ l on. c.in_err-append.ensures.old told l on) in
     search (rules, stands)

@@ -4,7 +4,7 @@ use Rattle.ec_protocol.specs.World as machine
 use Rattle.ec_protocol.specs.declared.world.World.{World as State}
 use Rattle.ec_running.specs.Faults.{of_step}
 use Rattle.ec_world.specs.Laws.{in_step_stands}
-use Rattle.ec_world.specs.StepEnds.{under, behind_arm, Fated, Refuses, IsLeft, as_before}
+use Rattle.ec_world.specs.StepEnds.{under, behind_arm, Fated, RefusesEvent, IsLeft, as_before}
 use Rattle.ec_world.specs.Worlds.{view_of, IsInStep}
 use Rattle.ec_world.proofs.Reaching.{leads_known}
 use Rattle.ec_world.proofs.Stepped.{answer_ok, answer_in_step, answer_err, answer_counts, answer_left, counts_same}
@@ -39,7 +39,7 @@ pub returns-clause-err : goal.returns-clause-err
 returns-clause-err g c =
     let tells = g.D.Disk.tells in
     let now = g.D.Disk.view c.happen-done.new.disk in
-    let from : State → Type 0 = λ v. IfErr c.happen-done.result (λ why. Refuses (of_step why) (machine.happen machine.runs c.args.event v) v (view_of c.happen-done.new.self) (IsInStep tells now c.happen-done.new.self)) in
+    let from : State → Type 0 = λ v. IfErr c.happen-done.result (λ why. RefusesEvent (of_step why) (machine.happen machine.runs c.args.event v) v (view_of c.happen-done.new.self) (IsInStep tells now c.happen-done.new.self)) in
     answer_err c.happen-done.result c.answer.result (machine.happen machine.runs c.args.event (view_of c.args.self.now)) (view_of c.args.self.now) tells now c.happen-done.new.self c.answer.new.self
     (subst from c.begin_step.ensures.value c.happen-done.ensures.err) c.answer.ensures.err c.answer.ensures.view c.answer.ensures.same
 
