@@ -87,9 +87,18 @@ def wide_functions():
     return [f"{name} ({len(parameters)})" for name, parameters in functions() if len(parameters) > PARAMETERS]
 
 
+ANSWERS = ("Answers.antt", "Invariants.antt", "Proof.antt", "Send.antt", "Lib.antt")
+
+
+def proof_files():
+    """The files of lemmas of all crates, those in folders too."""
+    found = sorted(glob.glob(f"{ROOT}/crates/*/proofs/**/*.antt", recursive=True))
+    return [path for path in found if os.path.basename(path) not in ANSWERS]
+
+
 def lemmas():
     """The lemmas of all crates, each as its file, its name and its text, in which `_` stands for the name."""
-    for path in sorted(glob.glob(f"{ROOT}/crates/*/proofs/*.antt")):
+    for path in proof_files():
         for it in trust.Module(inside(path), path).definitions.values():
             text = re.sub(r"\s+", " ", " ".join(it.text)).removeprefix("pub ")
             yield inside(path), it.name, re.sub(rf"(?<![\w-]){re.escape(it.name)}(?![\w'-])", "_", text)
@@ -108,8 +117,7 @@ def same_lemmas():
 
 def full_folders():
     """Folders of proofs with more than forty files."""
-    for folder in sorted(glob.glob(f"{ROOT}/crates/*/proofs")):
-        count = len(glob.glob(f"{folder}/*.antt"))
+    for folder, count in sorted(collections.Counter(map(os.path.dirname, proof_files())).items()):
         if count > FILES:
             yield f"{inside(folder)} ({count})"
 

@@ -20,7 +20,7 @@ import sys
 import textwrap
 
 ROOT = os.path.dirname(os.path.dirname(os.path.realpath(__file__)))
-SOURCE, FUNCTION = "ec_named/src/lib.rt", "echo_main"
+SOURCE, FUNCTION = "ec_echo/src/named.rt", "echo_main"
 PAGE = f"{ROOT}/docs/DEFINITIONS.md"
 # What is to be read at most, in lines, files and definitions; whether `check` fails where it's more.
 OF_LINES = "history lines replies reports losses fsync room bytes own_calls sessions spent together complete write_behind statuses".split()

@@ -2,7 +2,7 @@
 use Rattle.std.proofs.Common.{◌≡◌, ◌<◌, ◌≤◌, sym, ap, ◌∙◌, arith, ℕ, suc, List, ◌∷◌}
 use Rattle.std.specs.Prelude.{◌+◌, ◌-◌}
 use Rattle.ec_sessions.specs.Slots as slots
-use Rattle.ec_tokens.specs.Tokens.{Tokens}
+use Rattle.ec_sessions.specs.OfTokens.Tokens.{Tokens}
 use Rattle.ec_protocol.specs.Server.{with_ids}
 
 pub run_step : (from k : ℕ) → k < 16 → slots.run (from + k) (16 - k) ≡ (from + k) ∷ slots.run (from + (k + 1)) (16 - (k + 1))

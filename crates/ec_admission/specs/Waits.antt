@@ -3,11 +3,11 @@ use Rattle.std.proofs.Common.{◌≡◌, ◌≤◌, sym, subst, arith, ℕ, suc,
 use Rattle.std.specs.Prelude.{◌==◌, ◌+◌, OnOk, OnErr}
 use Rattle.ec_base.specs.declared.ids.Hold.{Hold}
 use Rattle.ec_base.specs.Holds.{stronger}
-use Rattle.ec_tokens.specs.Tokens.{Tokens}
-use Rattle.ec_recall.specs.Wants.{noted, is_of}
-use Rattle.ec_recall.specs.declared.want.Want.{Want}
-use Rattle.ec_recall.specs.Due.{wants_after}
-use Rattle.ec_recall.specs.Laws.{counted}
+use Rattle.ec_sessions.specs.OfTokens.Tokens.{Tokens}
+use Rattle.ec_sessions.specs.OfRecall.Wants.{noted, is_of}
+use Rattle.ec_sessions.specs.declared.recall.want.Want.{Want}
+use Rattle.ec_sessions.specs.OfRecall.Due.{wants_after}
+use Rattle.ec_sessions.specs.OfRecall.Laws.{counted}
 
 pub noted_longer : (s x : ℕ) (h : Hold) (ws : List Want) → length (noted s x h ws) ≤ suc (length ws)
 noted_longer s x h [] = omega arith

@@ -4,12 +4,12 @@ ghost use Rattle.std.specs.List.{list_all};
 ghost use Rattle.ec_base.specs.Holds.{is_write};
 ghost use Rattle.ec_sessions.specs.Slots.{slot_at};
 ghost use Rattle.ec_durable.specs.Durable.{has_batch};
-ghost use Rattle.ec_tokens.specs.Tokens.{mode, token};
+ghost use Rattle.ec_sessions.specs.OfTokens.Tokens.{mode, token};
 ghost use Rattle.ec_protocol.specs.Server as machine;
 
 use ec_base::{ClerkId, Hold, NoMemory, ObjId, OpNo, SessionNo};
 use ec_sessions::Sessions;
-use ec_tokens::Tokens;
+use ec_sessions::tokens::Tokens;
 use ec_volume::{Update, operands};
 use std::alloc::Global;
 

@@ -5,7 +5,7 @@ ghost use Rattle.ec_sessions.specs.Slots.{run};
 ghost use Rattle.ec_protocol.specs.Server as machine;
 
 use ec_base::{Hold, NoMemory, ObjId, SessionNo};
-use ec_tokens::Tokens;
+use ec_sessions::tokens::Tokens;
 
 /// So many ids are granted at a time.
 pub const IDS_PER_GRANT: u32 = 16;

@@ -1,13 +1,13 @@
 // The wants that wait, and a bound on how many they are.
 ghost use Rattle.std.specs.Prelude.{◌≡◌, ◌≢◌, ◌==◌, ◌≤◌, [], not, filter, length, IfOk, OnOk};
-ghost use Rattle.ec_recall.specs.Due as due;
-ghost use Rattle.ec_recall.specs.Rounds.{GrantsGoIn};
-ghost use Rattle.ec_recall.specs.Wants as wants;
-ghost use Rattle.ec_tokens.specs.SoundTokens.{IsSound};
+ghost use Rattle.ec_sessions.specs.OfRecall.Due as due;
+ghost use Rattle.ec_sessions.specs.OfRecall.Rounds.{GrantsGoIn};
+ghost use Rattle.ec_sessions.specs.OfRecall.Wants as wants;
+ghost use Rattle.ec_sessions.specs.OfTokens.SoundTokens.{IsSound};
 
 use ec_base::{Hold, NoMemory, ObjId, SessionNo};
-use ec_recall::{Action, Recalls};
-use ec_tokens::Tokens;
+use ec_sessions::recall::{Action, Recalls};
+use ec_sessions::tokens::Tokens;
 use std::alloc::Global;
 use std::marker::Model;
 
@@ -21,7 +21,7 @@ pub struct Waiting {
 
 impl Model for Waiting {
     ghost use Rattle.std.specs.Prelude.{◌≤◌, List, length};
-    ghost use Rattle.ec_recall.specs.declared.want.Want.{Want};
+    ghost use Rattle.ec_sessions.specs.declared.recall.want.Want.{Want};
 
     ghost Value = { List Want };
 

@@ -8,8 +8,8 @@ use Rattle.ec_lock.specs.declared.types.Pass.{Pass}
 use Rattle.ec_lock.specs.PassViews.{front}
 use Rattle.ec_servernode.specs.declared.state.Node.{Node}
 use Rattle.ec_servernode.specs.declared.step.Step.{Step}
-use Rattle.ec_bells.specs.declared.telling.Gone.{Gone}
-use Rattle.ec_bells.specs.declared.telling.Gone.TheVariants as gone
+use Rattle.ec_attend.specs.declared.bells.telling.Gone.{Gone}
+use Rattle.ec_attend.specs.declared.bells.telling.Gone.TheVariants as gone
 use Rattle.ec_attend.specs.Links.{Refuses, WasReplaced}
 use Rattle.ec_attend.specs.OverLinks.{IsOverBy, is_over, EndsSo}
 

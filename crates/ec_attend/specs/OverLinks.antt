@@ -11,8 +11,8 @@ use Rattle.ec_servernode.specs.declared.fault.ServeFault.{ServeFault}
 use Rattle.ec_servernode.specs.declared.fault.ServeFault.TheVariants as fault
 use Rattle.ec_servernode.specs.Bodies.{heard_by, said_by}
 use Rattle.ec_servernode.specs.Run.{number_of}
-use Rattle.ec_bells.specs.declared.telling.Gone.{Gone}
-use Rattle.ec_bells.specs.declared.telling.Gone.TheVariants as gone
+use Rattle.ec_attend.specs.declared.bells.telling.Gone.{Gone}
+use Rattle.ec_attend.specs.declared.bells.telling.Gone.TheVariants as gone
 use Rattle.ec_base.specs.Lists.{Tells}
 use Rattle.ec_attend.specs.Links.{Refuses, WasReplaced, HasNoEnd, Carries}
 

@@ -5,8 +5,8 @@ ghost use Rattle.ec_servernode.specs.TurnSteps.{IsServerPass};
 ghost use Rattle.ec_attend.specs.Links.{WasReplaced};
 ghost use Rattle.ec_attend.specs.OverLinks.{IsOverBy, is_over, EndsSo, IsServed, WasServed, BeginsSo, GoneSo};
 
+use crate::bells::{Bells, Gone, tell_end, tell_greeting};
 use ec_base::NoMemory;
-use ec_bells::{Bells, Gone, tell_end, tell_greeting};
 use ec_link::{Around, Bell, Link, NetFault};
 use ec_server::Keeper;
 use ec_servernode::{ServeFault, ServerPass, SharedServer, Told, Turned};

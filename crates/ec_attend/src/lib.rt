@@ -1,6 +1,7 @@
 //! One link of a server, which is served to its end, and who ends the sessions of clerks that have no link.
 #![tactic(auto)]
 
+pub mod bells;
 mod connection;
 mod warden;
 

@@ -3,8 +3,8 @@ ghost use Rattle.std.specs.Prelude.{◌≡◌, IfSome};
 ghost use Rattle.ec_lock.specs.PassViews.{Same};
 ghost use Rattle.ec_servernode.specs.TurnSteps.{IsServerPass};
 
+use crate::bells::{Bells, Watch, tell_session_end};
 use ec_base::{CLERK_COUNT, ClerkId};
-use ec_bells::{Bells, Watch, tell_session_end};
 use ec_link::{Around, Bell};
 use ec_server::Keeper;
 use ec_servernode::{ServeFault, ServerPass, SharedServer};

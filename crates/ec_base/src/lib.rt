@@ -8,6 +8,7 @@ mod list;
 mod name;
 mod outside;
 mod sorted;
+pub mod trace;
 
 pub use counter::Counter;
 pub use ids::{Age, ClerkId, Hold, ObjId, OpNo, SessionNo, next};

@@ -5,12 +5,12 @@ use Rattle.std.proofs.lemmas.Bool.Decides.{nat_tests}
 use Rattle.ec_history.specs.declared.shown.Shown.{Shown}
 use Rattle.ec_script.specs.Lines.{lines_of}
 use Rattle.std.specs.Prelude.{true, eqb, Result, Ok, Err, IsOk, IfOk, IfErr, IsErrAnd}
-use Rattle.ec_transcript.specs.Lines.{AreShown, IsBadLine}
-use Rattle.ec_transcript.specs.LinesRead.{TranscriptIsRead, IsReadTo, HasBadLine, line_of, shifted}
-use Rattle.ec_transcript.specs.declared.lines.ReadFault.{ReadFault}
-use Rattle.ec_transcript.specs.declared.lines.ReadFault.TheVariants as fault
-use Rattle.ec_transcript.proofs.Halves.{shown-append, bounded-append, bad-few}
-use Rattle.ec_transcript.proofs.Reading.{same-length}
+use Rattle.ec_legal.specs.OfTranscript.Lines.{AreShown, IsBadLine}
+use Rattle.ec_legal.specs.OfTranscript.LinesRead.{TranscriptIsRead, IsReadTo, HasBadLine, line_of, shifted}
+use Rattle.ec_legal.specs.declared.transcript.lines.ReadFault.{ReadFault}
+use Rattle.ec_legal.specs.declared.transcript.lines.ReadFault.TheVariants as fault
+use Rattle.ec_legal.proofs.OfTranscript.Halves.{shown-append, bounded-append, bad-few}
+use Rattle.ec_legal.proofs.OfTranscript.Reading.{same-length}
 use Rattle.ec_base.proofs.Results.{if-err}
 
 pub read-none : (bytes : List ℕ) → IsReadTo bytes bytes []

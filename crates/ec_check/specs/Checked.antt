@@ -5,8 +5,8 @@ use Rattle.ec_history.specs.declared.shown.Shown.{Shown}
 use Rattle.ec_script.specs.Lines.{lines_of}
 use Rattle.ec_streams.specs.Streams.{ReadWhole, ReadFailed}
 use Rattle.ec_streams.specs.declared.streams.ReadFault.TheVariants as read
-use Rattle.ec_transcript.specs.Limits.{max_transcript_bytes}
-use Rattle.ec_transcript.specs.Lines.{AreShown, IsBadLine}
+use Rattle.ec_legal.specs.OfTranscript.Limits.{max_transcript_bytes}
+use Rattle.ec_legal.specs.OfTranscript.Lines.{AreShown, IsBadLine}
 use Rattle.ec_check.specs.Verdicts.{IsVerdict}
 use Rattle.ec_check.specs.declared.checking.Checked.{Checked}
 use Rattle.ec_check.specs.declared.checking.CheckFault.{CheckFault}

@@ -2,7 +2,7 @@
 use Rattle.std.specs.Prelude.{ℕ, List}
 use Rattle.ec_history.specs.declared.shown.Shown.{Shown}
 use Rattle.ec_script.specs.Lines.{lines_of}
-use Rattle.ec_transcript.specs.Lines.{AreShown}
+use Rattle.ec_legal.specs.OfTranscript.Lines.{AreShown}
 use Rattle.ec_check.specs.declared.checking.Checked.{Checked}
 use Rattle.ec_check.specs.declared.checking.Checked.TheVariants as checked
 use Rattle.ec_check.specs.Verdicts.{IsVerdict}

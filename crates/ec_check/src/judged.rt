@@ -4,17 +4,17 @@ ghost use Rattle.std.specs.List.{list_all};
 ghost use Rattle.std.specs.Thread.{IsSync};
 ghost use Rattle.ec_legal.specs.Bounded.{is_bounded_line};
 ghost use Rattle.ec_legal.specs.Tried.{IsTried, Stops};
-ghost use Rattle.ec_transcript.specs.Limits.{max_transcript_bytes};
-ghost use Rattle.ec_transcript.specs.LinesRead.{TranscriptIsRead, IsReadTo, HasBadLine, line_of, shifted};
+ghost use Rattle.ec_legal.specs.OfTranscript.Limits.{max_transcript_bytes};
+ghost use Rattle.ec_legal.specs.OfTranscript.LinesRead.{TranscriptIsRead, IsReadTo, HasBadLine, line_of, shifted};
 ghost use Rattle.ec_check.specs.Verdicts.{IsVerdict};
 ghost use Rattle.ec_check.specs.Judged.{IsJudged};
-ghost use Rattle.ec_transcript.specs.declared.lines.ReadFault.TheVariants as unread;
+ghost use Rattle.ec_legal.specs.declared.transcript.lines.ReadFault.TheVariants as unread;
 
 use crate::checking::Checked;
 use ec_base::NoMemory;
 use ec_history::Shown;
+use ec_legal::transcript::{ReadFault, count_about, cut, read_parts};
 use ec_legal::{HistoryFault, Stop, Trial};
-use ec_transcript::{ReadFault, count_about, cut, read_parts};
 use std::alloc::Global;
 use std::thread::{Threads, join, join_mut};
 

@@ -5,4 +5,4 @@ mod checking;
 mod judged;
 
 pub use checking::{CheckFault, Checked, check_transcript};
-pub use ec_transcript::MAX_TRANSCRIPT_BYTES;
+pub use ec_legal::transcript::MAX_TRANSCRIPT_BYTES;

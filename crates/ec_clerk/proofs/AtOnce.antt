@@ -17,7 +17,7 @@ use Rattle.ec_plain.specs.declared.call.Outcome.{Outcome}
 use Rattle.ec_log.specs.Log as logs
 use Rattle.ec_log.specs.declared.state.Asked.{Asked}
 use Rattle.ec_log.specs.declared.state.Asked.TheVariants.{All}
-use Rattle.ec_resolve.specs.declared.verdict.Verdict.TheVariants.{Done}
+use Rattle.ec_cache.specs.declared.resolve.verdict.Verdict.TheVariants.{Done}
 use Rattle.ec_protocol.specs.declared.clerk.Clerk.{Clerk}
 use Rattle.ec_protocol.specs.declared.clerk.Out.{Out}
 use Rattle.ec_protocol.specs.declared.clerk.Out.TheVariants as out

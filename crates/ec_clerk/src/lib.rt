@@ -3,6 +3,7 @@
 
 mod clerk;
 mod prompt;
+pub mod running;
 
 pub use clerk::{Clerk, MAX_TOKENS};
 pub use prompt::held_call_is_prompt;

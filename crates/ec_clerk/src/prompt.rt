@@ -3,7 +3,7 @@ ghost use Rattle.std.specs.Prelude.{◌≡◌, ◌+◌, true, [], ◌∷◌};
 ghost use Rattle.ec_history.specs.declared.entry.Answer.TheVariants as answer;
 ghost use Rattle.ec_plain.specs.declared.call.Call.{Call as Asking};
 ghost use Rattle.ec_plain.specs.declared.call.Outcome.{Outcome as Comes};
-ghost use Rattle.ec_resolve.specs.declared.verdict.Verdict.TheVariants as verdict;
+ghost use Rattle.ec_cache.specs.declared.resolve.verdict.Verdict.TheVariants as verdict;
 ghost use Rattle.ec_protocol.specs.declared.clerk.Clerk.{Clerk as State};
 ghost use Rattle.ec_protocol.specs.declared.clerk.Out.TheVariants as out;
 ghost use Rattle.ec_protocol.specs.Clerk as clerk;

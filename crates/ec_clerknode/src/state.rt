@@ -1,10 +1,10 @@
 // The value behind the lock.
 use crate::step::Step;
 use crate::waiting::Waiting;
+use ec_base::trace::Trace;
 use ec_base::{Age, List, OpNo};
 use ec_clerk::Clerk;
 use ec_outs::{Kept, Patience};
-use ec_trace::Trace;
 use std::marker::Model;
 
 /// The clerk, the link, the answers that other lanes have yet to take, and the list of steps.

@@ -14,12 +14,12 @@ use Rattle.ec_history.specs.Placing.{place}
 use Rattle.ec_history.specs.declared.entry.Answer.{Answer}
 use Rattle.ec_history.specs.declared.entry.Answer.TheVariants as answer
 use Rattle.ec_history.specs.declared.entry.Entry.TheVariants as entry
-use Rattle.ec_report.specs.Report.{Owed, clear}
-use Rattle.ec_resolve.specs.declared.verdict.Verdict.{Verdict}
-use Rattle.ec_resolve.specs.declared.verdict.Verdict.TheVariants.{Need, Lost, NeedIds, Done}
-use Rattle.ec_laws.proofs.Places.{places-within}
+use Rattle.ec_cache.specs.OfReport.Report.{Owed, clear}
+use Rattle.ec_cache.specs.declared.resolve.verdict.Verdict.{Verdict}
+use Rattle.ec_cache.specs.declared.resolve.verdict.Verdict.TheVariants.{Need, Lost, NeedIds, Done}
+use Rattle.ec_history.proofs.OfLaws.Places.{places-within}
 use Rattle.ec_coherence.specs.Answers.{IsAt, IsAnswered}
-use Rattle.ec_resolve.specs.Agreement.{Shows}
+use Rattle.ec_cache.specs.OfResolve.Agreement.{Shows}
 use Rattle.ec_coherence.proofs.Judged.{done-comes, done-answered, lost-answered, full-answered, shows-all}
 use Rattle.ec_coherence.proofs.Rebased.{Alike, kept-same, owed_from-same}
 use Rattle.ec_protocol.specs.Clerk.{first_id, verdict}

@@ -20,13 +20,13 @@ use Rattle.ec_history.specs.declared.entry.Entry.TheVariants as entry
 use Rattle.ec_coherence.specs.Answers.{IsAnswered}
 use Rattle.ec_history.specs.declared.shown.Shown.{Shown}
 use Rattle.ec_history.specs.declared.shown.Shown.TheVariants.{Answered}
-use Rattle.ec_resolve.specs.declared.verdict.Verdict.{Verdict}
-use Rattle.ec_resolve.specs.declared.verdict.Verdict.TheVariants.{Need, Lost, NeedIds, Done}
+use Rattle.ec_cache.specs.declared.resolve.verdict.Verdict.{Verdict}
+use Rattle.ec_cache.specs.declared.resolve.verdict.Verdict.TheVariants.{Need, Lost, NeedIds, Done}
 use Rattle.ec_volume.specs.declared.update.Update.{Update}
-use Rattle.ec_laws.proofs.Cuts.{legal-step, legal-split, throughout-append, placeable-step}
-use Rattle.ec_laws.proofs.Late.{place-answer}
-use Rattle.ec_laws.proofs.More.{kept-step, owed-others, count-next, watch-step}
-use Rattle.ec_laws.proofs.Numbers.{kept-up_to, each-filter, each-front}
+use Rattle.ec_history.proofs.OfLaws.Cuts.{legal-step, legal-split, throughout-append, placeable-step}
+use Rattle.ec_history.proofs.OfLaws.Late.{place-answer}
+use Rattle.ec_history.proofs.OfLaws.More.{kept-step, owed-others, count-next, watch-step}
+use Rattle.ec_history.proofs.OfLaws.Numbers.{kept-up_to, each-filter, each-front}
 use Rattle.ec_coherence.proofs.Rebased.{Alike, alike-back, throughout-map, kept-same, owed_from-same, covers-same, leaves-same, legal-same}
 use Rattle.ec_protocol.specs.Clerk.{Doing, verdict}
 use Rattle.ec_protocol.specs.declared.clerk.Clerk.{Clerk}

@@ -6,9 +6,9 @@ use Rattle.ec_base.specs.declared.ids.Hold.{Hold}
 use Rattle.ec_base.specs.declared.ids.Hold.TheVariants.{Free, Read, Write}
 use Rattle.ec_volume.specs.Update.{member}
 use Rattle.ec_base.specs.Holds.{rank, clash, is_free, is_below}
-use Rattle.ec_tokens.specs.Laws.{sound_lowered}
-use Rattle.ec_tokens.specs.Tokens as tokens
-use Rattle.ec_tokens.specs.declared.token.Token.{Token}
+use Rattle.ec_sessions.specs.OfTokens.Laws.{sound_lowered}
+use Rattle.ec_sessions.specs.OfTokens.Tokens as tokens
+use Rattle.ec_sessions.specs.declared.tokens.token.Token.{Token}
 use Rattle.ec_wire.specs.Messages.{is_held_mode}
 use Rattle.ec_cache.specs.Cache.{last}
 use Rattle.ec_cache.specs.declared.state.Held.{Held}

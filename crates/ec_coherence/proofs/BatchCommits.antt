@@ -17,7 +17,7 @@ use Rattle.ec_durable.specs.Durable.{slot, step}
 use Rattle.ec_durable.specs.declared.state.Durable.{Durable}
 use Rattle.ec_durable.specs.declared.record.Record.TheVariants as record_of
 use Rattle.ec_log.specs.Log.{batch}
-use Rattle.ec_tokens.specs.Tokens as tokens
+use Rattle.ec_sessions.specs.OfTokens.Tokens as tokens
 use Rattle.ec_protocol.specs.Server.{Serving, flush, tell}
 use Rattle.ec_protocol.specs.declared.clerk.Clerk.{Clerk}
 use Rattle.ec_coherence.specs.System.{System, Ghost, clerk_in, eff_from, is_of, is_open, undurable}

@@ -5,7 +5,7 @@ use Rattle.ec_volume.specs.Image.{is_gone, new_object}
 use Rattle.ec_volume.specs.Update.{root}
 use Rattle.ec_volume.specs.declared.image.Image.TheVariants.{Gone}
 use Rattle.ec_volume.specs.declared.image.Kind.TheVariants as kind
-use Rattle.ec_laws.proofs.Formatted.{formatted-formed, formatted-held}
+use Rattle.ec_history.proofs.OfLaws.Formatted.{formatted-formed, formatted-held}
 use Rattle.ec_sessions.specs.declared.slot.Slot.{Slot}
 use Rattle.ec_durable.specs.Durable.{formatted, slot}
 use Rattle.ec_coherence.specs.System.{System}

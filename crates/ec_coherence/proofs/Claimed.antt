@@ -9,10 +9,10 @@ use Rattle.ec_base.specs.declared.ids.Hold.TheVariants.{Free, Read, Write}
 use Rattle.ec_volume.specs.Update.{member}
 use Rattle.ec_history.specs.History.{Each}
 use Rattle.ec_base.specs.Holds.{rank, clash, is_free}
-use Rattle.ec_tokens.specs.Laws.{sound_claimed}
-use Rattle.ec_tokens.specs.Tokens as tokens
-use Rattle.ec_tokens.specs.declared.token.Token.{Token}
-use Rattle.ec_recall.specs.declared.want.Want as want
+use Rattle.ec_sessions.specs.OfTokens.Laws.{sound_claimed}
+use Rattle.ec_sessions.specs.OfTokens.Tokens as tokens
+use Rattle.ec_sessions.specs.declared.tokens.token.Token.{Token}
+use Rattle.ec_sessions.specs.declared.recall.want.Want as want
 use Rattle.ec_wire.specs.Messages.{is_held_mode, rises}
 use Rattle.ec_cache.specs.Cache.{last, held_mode}
 use Rattle.ec_cache.specs.declared.state.Held.{Held}

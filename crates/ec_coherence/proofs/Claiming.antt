@@ -9,8 +9,8 @@ use Rattle.ec_base.specs.declared.ids.Hold.{Hold}
 use Rattle.ec_base.specs.declared.ids.Hold.TheVariants.{Free}
 use Rattle.ec_volume.specs.Update.{member}
 use Rattle.ec_history.specs.History.{Each}
-use Rattle.ec_tokens.specs.Laws.{holder_has}
-use Rattle.ec_tokens.specs.Tokens as tokens
+use Rattle.ec_sessions.specs.OfTokens.Laws.{holder_has}
+use Rattle.ec_sessions.specs.OfTokens.Tokens as tokens
 use Rattle.ec_wire.specs.Messages.{rises}
 use Rattle.ec_coherence.specs.System.{eff_from, recorded}
 use Rattle.ec_coherence.specs.Tokens.{ClaimFits, Side, Tables, TablesAgree, TokensAgree, View, eff, eff_hold, eff_of}

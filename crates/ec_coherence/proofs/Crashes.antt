@@ -6,9 +6,9 @@ use Rattle.ec_history.specs.Placing.{begun, place, watch}
 use Rattle.ec_history.specs.declared.watch.Watch.{Watch}
 use Rattle.ec_history.specs.declared.shown.Shown.{Shown}
 use Rattle.ec_history.specs.declared.shown.Shown.TheVariants as show
-use Rattle.ec_laws.proofs.Cuts.{placeable-step}
-use Rattle.ec_laws.proofs.Late.{place-no_call}
-use Rattle.ec_laws.proofs.More.{watch-step}
+use Rattle.ec_history.proofs.OfLaws.Cuts.{placeable-step}
+use Rattle.ec_history.proofs.OfLaws.Late.{place-no_call}
+use Rattle.ec_history.proofs.OfLaws.More.{watch-step}
 use Rattle.ec_protocol.specs.declared.clerk.Clerk.{Clerk}
 use Rattle.ec_coherence.specs.System.{System}
 use Rattle.ec_coherence.specs.Sessions as sessions

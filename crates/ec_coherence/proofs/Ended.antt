@@ -8,10 +8,10 @@ use Rattle.ec_volume.specs.Update.{member}
 use Rattle.ec_volume.specs.declared.image.Image.{Image}
 use Rattle.ec_history.specs.History.{Each}
 use Rattle.ec_base.specs.Holds.{clash, rank, is_write}
-use Rattle.ec_tokens.specs.Laws.{sound_without}
-use Rattle.ec_tokens.specs.Tokens as tokens
-use Rattle.ec_recall.specs.Wants.{is_of}
-use Rattle.ec_recall.specs.declared.want.Want as want
+use Rattle.ec_sessions.specs.OfTokens.Laws.{sound_without}
+use Rattle.ec_sessions.specs.OfTokens.Tokens as tokens
+use Rattle.ec_sessions.specs.OfRecall.Wants.{is_of}
+use Rattle.ec_sessions.specs.declared.recall.want.Want as want
 use Rattle.ec_wire.specs.Messages.{is_held_mode}
 use Rattle.ec_wire.specs.declared.msg.Msg.{Msg}
 use Rattle.ec_wire.specs.declared.msg.Msg.TheVariants.{Want, Back, Flush, Room, Claim, Bye, Opened, Grant, Recall, Ids, Restarted}

@@ -14,9 +14,9 @@ use Rattle.ec_volume.specs.Update.{operands, has_operand, is_sound, effect}
 use Rattle.ec_volume.specs.Volume.{images, image_next, image_after, after}
 use Rattle.ec_volume.specs.declared.image.Image.{Image}
 use Rattle.ec_history.specs.History.{Each, Op, updates, of_start}
-use Rattle.ec_laws.specs.Needs.{holds_needed}
-use Rattle.ec_laws.proofs.Parts.{needs-part}
-use Rattle.ec_laws.proofs.Pulled.{pulled-fit_alone}
+use Rattle.ec_history.specs.OfLaws.Needs.{holds_needed}
+use Rattle.ec_history.proofs.OfLaws.Parts.{needs-part}
+use Rattle.ec_history.proofs.OfLaws.Pulled.{pulled-fit_alone}
 use Rattle.ec_sessions.specs.declared.slot.Slot.{Slot}
 use Rattle.ec_base.specs.Holds.{rank, clash}
 use Rattle.ec_wire.specs.Messages.{is_held_mode}

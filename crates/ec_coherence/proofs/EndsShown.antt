@@ -8,8 +8,8 @@ use Rattle.ec_history.specs.Placing.{watch, ended, is_running, owner}
 use Rattle.ec_history.specs.declared.watch.Watch.{Watch}
 use Rattle.ec_history.specs.declared.shown.Shown.{Shown}
 use Rattle.ec_history.specs.declared.shown.Shown.TheVariants as show
-use Rattle.ec_laws.proofs.More.{watch-step}
-use Rattle.ec_laws.proofs.Watching.{other_end, own_end}
+use Rattle.ec_history.proofs.OfLaws.More.{watch-step}
+use Rattle.ec_history.proofs.OfLaws.Watching.{other_end, own_end}
 use Rattle.ec_volume.specs.Volume.{Fits}
 use Rattle.ec_history.specs.History.{updates}
 use Rattle.ec_sessions.specs.declared.slot.Slot.{Slot}

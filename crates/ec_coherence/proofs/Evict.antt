@@ -26,7 +26,7 @@ use Rattle.ec_coherence.proofs.Tables.{each-map}
 use Rattle.ec_base.proofs.Numbers.{same-self as same, equal}
 use Rattle.ec_base.proofs.Bools.{not-both as refutes, is-true}
 use Rattle.ec_coherence.proofs.CacheChange.{at-cons}
-use Rattle.ec_laws.proofs.IdleIds.{both}
+use Rattle.ec_history.proofs.OfLaws.IdleIds.{both}
 
 -- Entries of a table with distinct keys are what is found at them.
 

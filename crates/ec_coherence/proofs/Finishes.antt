@@ -12,7 +12,7 @@ use Rattle.ec_history.specs.declared.shown.Shown.{Shown}
 use Rattle.ec_history.specs.declared.shown.Shown.TheVariants as show
 use Rattle.ec_sessions.specs.Slots.{with_slot, ended}
 use Rattle.ec_sessions.specs.declared.slot.Slot.{Slot}
-use Rattle.ec_tokens.specs.Tokens as tokens
+use Rattle.ec_sessions.specs.OfTokens.Tokens as tokens
 use Rattle.ec_wire.specs.declared.msg.Msg.{Msg}
 use Rattle.ec_wire.specs.declared.msg.Msg.TheVariants.{Ended}
 use Rattle.ec_durable.specs.Durable.{is_session, slot, step}

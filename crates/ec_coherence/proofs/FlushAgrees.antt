@@ -16,7 +16,7 @@ use Rattle.ec_durable.specs.Durable.{slot, made, spent, carried_out}
 use Rattle.ec_durable.specs.declared.state.Durable.{Durable}
 use Rattle.ec_durable.specs.declared.record.Record.TheVariants as record_of
 use Rattle.ec_log.specs.Log.{batch}
-use Rattle.ec_tokens.specs.Tokens.{token}
+use Rattle.ec_sessions.specs.OfTokens.Tokens.{token}
 use Rattle.ec_protocol.specs.Server.{Serving, flush, tell}
 use Rattle.ec_protocol.specs.declared.clerk.Clerk.{Clerk}
 use Rattle.ec_coherence.specs.System.{System, Ghost, clerk_in, recorded}

@@ -11,8 +11,8 @@ use Rattle.ec_history.specs.History.{Each, Op, updates}
 use Rattle.ec_sessions.specs.Windows.{has}
 use Rattle.ec_sessions.specs.declared.slot.Slot.{Slot}
 use Rattle.ec_base.specs.Holds.{rank, is_write}
-use Rattle.ec_tokens.specs.Tokens.{token, mode}
-use Rattle.ec_tokens.specs.declared.token.Token.{Token}
+use Rattle.ec_sessions.specs.OfTokens.Tokens.{token, mode}
+use Rattle.ec_sessions.specs.declared.tokens.token.Token.{Token}
 use Rattle.ec_wire.specs.declared.msg.Msg.TheVariants.{Flush, Kept}
 use Rattle.ec_durable.specs.Durable.{slot, step}
 use Rattle.ec_durable.specs.declared.state.Durable.{Durable}

@@ -8,8 +8,8 @@ use Rattle.ec_volume.specs.Update.{operands}
 use Rattle.ec_history.specs.History.{Op, Each, kept, is_one_of}
 use Rattle.ec_history.specs.declared.entry.Entry.TheVariants as entry
 use Rattle.ec_base.specs.Holds.{is_free}
-use Rattle.ec_tokens.specs.Tokens as tokens
-use Rattle.ec_recall.specs.declared.want.Want as want
+use Rattle.ec_sessions.specs.OfTokens.Tokens as tokens
+use Rattle.ec_sessions.specs.declared.recall.want.Want as want
 use Rattle.ec_wire.specs.Messages.{is_sound}
 use Rattle.ec_wire.specs.declared.msg.Msg.{Msg}
 use Rattle.ec_protocol.specs.Server.{Serving, tell}

@@ -9,7 +9,7 @@ use Rattle.ec_sessions.specs.declared.slot.Slot.{Slot}
 use Rattle.ec_wire.specs.declared.msg.Msg.TheVariants.{Ids}
 use Rattle.ec_durable.specs.Durable.{is_full, slot, step}
 use Rattle.ec_durable.specs.declared.record.Record.TheVariants as record_of
-use Rattle.ec_tokens.specs.Tokens as tokens
+use Rattle.ec_sessions.specs.OfTokens.Tokens as tokens
 use Rattle.ec_protocol.specs.Server.{Serving, grant_ids, ids_are_spent, is_last_number}
 use Rattle.ec_protocol.specs.declared.clerk.Clerk.{Clerk}
 use Rattle.ec_history.specs.History.{Op}

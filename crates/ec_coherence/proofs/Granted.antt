@@ -7,12 +7,12 @@ use Rattle.ec_volume.specs.Update.{member}
 use Rattle.ec_volume.specs.declared.image.Image.{Image}
 use Rattle.ec_history.specs.History.{Each}
 use Rattle.ec_base.specs.Holds.{clash, is_write}
-use Rattle.ec_tokens.specs.Laws.{sound_granted}
-use Rattle.ec_tokens.specs.Tokens as tokens
-use Rattle.ec_tokens.specs.SoundTokens as sound_tokens
-use Rattle.ec_tokens.specs.declared.token.Token.{Token}
-use Rattle.ec_recall.specs.Wants.{is_of}
-use Rattle.ec_recall.specs.declared.want.Want as want
+use Rattle.ec_sessions.specs.OfTokens.Laws.{sound_granted}
+use Rattle.ec_sessions.specs.OfTokens.Tokens as tokens
+use Rattle.ec_sessions.specs.OfTokens.SoundTokens as sound_tokens
+use Rattle.ec_sessions.specs.declared.tokens.token.Token.{Token}
+use Rattle.ec_sessions.specs.OfRecall.Wants.{is_of}
+use Rattle.ec_sessions.specs.declared.recall.want.Want as want
 use Rattle.ec_wire.specs.declared.msg.Msg.TheVariants.{Grant}
 use Rattle.ec_cache.specs.Cache.{last}
 use Rattle.ec_cache.specs.declared.state.Held.{Held}

@@ -10,9 +10,9 @@ use Rattle.ec_base.specs.declared.ids.Hold.TheVariants.{Free, Read, Write}
 use Rattle.ec_volume.specs.Update.{member}
 use Rattle.ec_volume.specs.Volume.{images}
 use Rattle.ec_base.specs.Holds.{rank, is_write, is_free, clash}
-use Rattle.ec_tokens.specs.Tokens as tokens
-use Rattle.ec_tokens.specs.declared.token.Token.{Token}
-use Rattle.ec_recall.specs.Wants.{noted}
+use Rattle.ec_sessions.specs.OfTokens.Tokens as tokens
+use Rattle.ec_sessions.specs.declared.tokens.token.Token.{Token}
+use Rattle.ec_sessions.specs.OfRecall.Wants.{noted}
 use Rattle.ec_wire.specs.Messages.{is_sound, is_held_mode, rises}
 use Rattle.ec_wire.specs.declared.msg.Msg.TheVariants.{Want, Back, Grant, Claim, Ids}
 use Rattle.ec_cache.specs.Cache.{last}

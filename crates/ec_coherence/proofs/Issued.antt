@@ -17,7 +17,7 @@ use Rattle.ec_volume.specs.declared.update.Update.{Update}
 use Rattle.ec_plain.specs.declared.call.Call.{Call}
 use Rattle.ec_order.specs.Order.{Holds}
 use Rattle.ec_history.specs.History.{Each, Op, updates, of_start}
-use Rattle.ec_laws.proofs.Objects.{fits-next}
+use Rattle.ec_history.proofs.OfLaws.Objects.{fits-next}
 use Rattle.ec_machine_laws.proofs.Logging.{issue-log, issue-batch, sorted-more}
 use Rattle.ec_machine_laws.proofs.Resting.{issue-rest, issue-tells}
 use Rattle.ec_sessions.specs.declared.slot.Slot.{Slot}

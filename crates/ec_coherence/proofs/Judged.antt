@@ -26,13 +26,13 @@ use Rattle.ec_history.specs.declared.entry.Entry.TheVariants as entry
 use Rattle.ec_cache.specs.Cache as cache
 use Rattle.ec_cache.specs.declared.state.CacheState.{CacheState}
 use Rattle.ec_cache.specs.declared.state.Held.{Held}
-use Rattle.ec_report.specs.Report.{Owed, due, clear, objects}
-use Rattle.ec_resolve.specs.Agreement.{Shows, IsFor, IsOwed, IsReady, IsWithoutId, AreTouchedBy, is_unread}
-use Rattle.ec_resolve.specs.Resolve.{evaluate, lacks_id, met}
-use Rattle.ec_resolve.specs.declared.verdict.Verdict.TheVariants.{Lost, NeedIds, Done}
-use Rattle.ec_resolve.proofs.Settled.{either}
-use Rattle.ec_resolve.proofs.Verdicts.{done-says, done-ready, lost-says, ids-says}
-use Rattle.ec_laws.proofs.More.{owed-step}
+use Rattle.ec_cache.specs.OfReport.Report.{Owed, due, clear, objects}
+use Rattle.ec_cache.specs.OfResolve.Agreement.{Shows, IsFor, IsOwed, IsReady, IsWithoutId, AreTouchedBy, is_unread}
+use Rattle.ec_cache.specs.OfResolve.Resolve.{evaluate, lacks_id, met}
+use Rattle.ec_cache.specs.declared.resolve.verdict.Verdict.TheVariants.{Lost, NeedIds, Done}
+use Rattle.ec_cache.proofs.OfResolve.Settled.{either}
+use Rattle.ec_cache.proofs.OfResolve.Verdicts.{done-says, done-ready, lost-says, ids-says}
+use Rattle.ec_history.proofs.OfLaws.More.{owed-step}
 use Rattle.ec_coherence.specs.Answers.{IsAt, IsAnswered, IsUnowed, id_of}
 use Rattle.ec_base.proofs.Numbers.{same-self as same, same-self as same_number, equal}
 use Rattle.ec_base.proofs.Bools.{or-right, is-true, holds-true as holds}

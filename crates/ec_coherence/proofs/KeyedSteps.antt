@@ -22,8 +22,8 @@ use Rattle.ec_log.specs.declared.state.Asked.{Asked}
 use Rattle.ec_log.specs.declared.state.Asked.TheVariants.{All}
 use Rattle.ec_log.specs.declared.state.Pick.{Pick}
 use Rattle.ec_log.specs.declared.state.Pick.TheVariants as pick_of
-use Rattle.ec_resolve.specs.declared.verdict.Verdict.{Verdict}
-use Rattle.ec_resolve.specs.declared.verdict.Verdict.TheVariants.{Need, Lost, NeedIds, Done}
+use Rattle.ec_cache.specs.declared.resolve.verdict.Verdict.{Verdict}
+use Rattle.ec_cache.specs.declared.resolve.verdict.Verdict.TheVariants.{Need, Lost, NeedIds, Done}
 use Rattle.ec_protocol.specs.declared.clerk.Waiting.{Waiting}
 use Rattle.ec_protocol.specs.Clerk.{Doing, spend, with_clerk, with_log, with_update, send_batch, send_picked, ask_for, may_want, wanted, is_wanted, send_want, want, has_session, send_room, ask_anew, ask_room, Tried, Waits, Answered, answer_with, awaited, await, is_owing, suits, issue, issue_if_room, settle_outcome, try_verdict, try, verdict, left_of, lower_held, give_back, is_ready, keep_recall, try_recalls, answer_recalls, is_settled, keep_push, try_pushes, ask_pushes, send_backs, evict_unpinned, evict, on_objects, settle, is_need, resend_want, resend_needs, needs, resend_room, resend_batches, send_outstanding, claim, is_session, epoch, in_session, or_hello, hello, same_age, take_opened, mark_recall, take_recall, add_ids, take_ids, idless, refuse_make, keep_call, refuse_makes, take_no_room, enter_epoch, take_restarted, lose, take_ended, take_old_boot, taken, take, begin, add_call, push, resend, bye, flush, doing, emit, send, with_cache}
 use Rattle.ec_coherence.specs.Caches.{IsKeyed, CachesAgree}

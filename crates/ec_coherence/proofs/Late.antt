@@ -15,11 +15,11 @@ use Rattle.ec_history.specs.Legal.{IsLegal, leaves, is_call_of_other, is_op_of}
 use Rattle.ec_history.specs.declared.entry.Answer.{Answer}
 use Rattle.ec_history.specs.declared.entry.Entry.{Entry}
 use Rattle.ec_history.specs.declared.entry.Entry.TheVariants as entry
-use Rattle.ec_report.specs.Report.{Owed}
-use Rattle.ec_laws.proofs.Numbers.{each-front}
-use Rattle.ec_laws.proofs.Inserted.{insertion}
+use Rattle.ec_cache.specs.OfReport.Report.{Owed}
+use Rattle.ec_history.proofs.OfLaws.Numbers.{each-front}
+use Rattle.ec_history.proofs.OfLaws.Inserted.{insertion}
 use Rattle.ec_coherence.specs.Answers.{IsAt, IsAnswered}
-use Rattle.ec_resolve.specs.Agreement.{Shows}
+use Rattle.ec_cache.specs.OfResolve.Agreement.{Shows}
 use Rattle.ec_coherence.proofs.Judged.{held-token, shows-all}
 use Rattle.ec_coherence.proofs.Rebased.{Alike, kept-same, owed_from-same, legal-same}
 use Rattle.ec_protocol.specs.Clerk.{first_id, verdict}

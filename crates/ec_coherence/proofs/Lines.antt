@@ -5,9 +5,9 @@ use Rattle.ec_history.specs.Placing.{MayFollow, begun, is_call_of, line_entries,
 use Rattle.ec_history.specs.declared.watch.Watch.{Watch}
 use Rattle.ec_history.specs.declared.shown.Shown.{Shown}
 use Rattle.ec_history.specs.declared.shown.Shown.TheVariants.{Nothing, Started, Stopped}
-use Rattle.ec_laws.proofs.Cuts.{placeable-step}
-use Rattle.ec_laws.proofs.Late.{place-no_call}
-use Rattle.ec_laws.proofs.More.{watch-step}
+use Rattle.ec_history.proofs.OfLaws.Cuts.{placeable-step}
+use Rattle.ec_history.proofs.OfLaws.Late.{place-no_call}
+use Rattle.ec_history.proofs.OfLaws.More.{watch-step}
 use Rattle.ec_protocol.specs.declared.clerk.Clerk.{Clerk}
 use Rattle.ec_coherence.specs.System.{System}
 use Rattle.ec_coherence.specs.Events.{CutAgrees, EventsAgree}

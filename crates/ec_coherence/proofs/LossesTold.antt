@@ -17,10 +17,10 @@ use Rattle.ec_history.specs.declared.entry.Entry.{Entry}
 use Rattle.ec_history.specs.declared.entry.Entry.TheVariants as entry
 use Rattle.ec_history.specs.declared.shown.Shown.{Shown}
 use Rattle.ec_history.specs.declared.shown.Shown.TheVariants as show
-use Rattle.ec_laws.proofs.Cuts.{legal-step, placeable-step, throughout-append}
-use Rattle.ec_laws.proofs.Late.{place-ended}
-use Rattle.ec_laws.proofs.More.{count-next, kept-step, owed-others, watch-step}
-use Rattle.ec_laws.proofs.Watching.{other_end, own_end}
+use Rattle.ec_history.proofs.OfLaws.Cuts.{legal-step, placeable-step, throughout-append}
+use Rattle.ec_history.proofs.OfLaws.Late.{place-ended}
+use Rattle.ec_history.proofs.OfLaws.More.{count-next, kept-step, owed-others, watch-step}
+use Rattle.ec_history.proofs.OfLaws.Watching.{other_end, own_end}
 use Rattle.ec_sessions.specs.declared.slot.Slot.{Slot}
 use Rattle.ec_wire.specs.declared.msg.Msg.{Msg}
 use Rattle.ec_durable.specs.Durable.{slot}

@@ -9,8 +9,8 @@ use Rattle.ec_volume.specs.declared.update.Update.{Update}
 use Rattle.ec_order.specs.Order as order
 use Rattle.ec_history.specs.History.{Op, Each, kept, numbers, updates, of_start, is_one_of, without}
 use Rattle.ec_history.specs.Legal.{IsLawful, is_closed}
-use Rattle.ec_laws.proofs.Parts.{needs-part}
-use Rattle.ec_laws.proofs.Removed.{removal-rest}
+use Rattle.ec_history.proofs.OfLaws.Parts.{needs-part}
+use Rattle.ec_history.proofs.OfLaws.Removed.{removal-rest}
 use Rattle.ec_coherence.specs.System.{System, base_of, is_of, is_open, undurable}
 use Rattle.ec_coherence.specs.Events.{EventsAgree, shown_boot, shown_op}
 use Rattle.ec_coherence.specs.Log.{LogsAgree}

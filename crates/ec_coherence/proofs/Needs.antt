@@ -14,10 +14,10 @@ use Rattle.ec_wire.specs.Messages.{is_held_mode}
 use Rattle.ec_cache.specs.Cache.{holds, mode, held_mode}
 use Rattle.ec_cache.specs.declared.state.CacheState.{CacheState}
 use Rattle.ec_cache.specs.declared.state.Held.{Held}
-use Rattle.ec_report.specs.Report.{Owed, due}
-use Rattle.ec_resolve.specs.Resolve.{outcome, lacks_id, seen, first_unread, met, first_unwritten, lacking, reported, evaluate}
-use Rattle.ec_resolve.specs.declared.verdict.Verdict.{Verdict}
-use Rattle.ec_resolve.specs.declared.verdict.Verdict.TheVariants.{Need, NeedIds, Done}
+use Rattle.ec_cache.specs.OfReport.Report.{Owed, due}
+use Rattle.ec_cache.specs.OfResolve.Resolve.{outcome, lacks_id, seen, first_unread, met, first_unwritten, lacking, reported, evaluate}
+use Rattle.ec_cache.specs.declared.resolve.verdict.Verdict.{Verdict}
+use Rattle.ec_cache.specs.declared.resolve.verdict.Verdict.TheVariants.{Need, NeedIds, Done}
 use Rattle.ec_protocol.specs.Clerk.{need_of}
 use Rattle.ec_coherence.specs.Tokens.{IsWrite}
 use Rattle.ec_base.proofs.Numbers.{equal}

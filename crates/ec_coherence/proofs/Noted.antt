@@ -6,11 +6,11 @@ use Rattle.ec_base.specs.declared.ids.Hold.{Hold}
 use Rattle.ec_volume.specs.Update.{member}
 use Rattle.ec_history.specs.History.{Each}
 use Rattle.ec_base.specs.Holds.{rank, is_below, stronger}
-use Rattle.ec_tokens.specs.Tokens as tokens
-use Rattle.ec_tokens.specs.declared.token.Token.{Token}
+use Rattle.ec_sessions.specs.OfTokens.Tokens as tokens
+use Rattle.ec_sessions.specs.declared.tokens.token.Token.{Token}
 use Rattle.std.proofs.lemmas.Bool.{and_parts}
-use Rattle.ec_recall.specs.Wants.{noted, is_of}
-use Rattle.ec_recall.specs.declared.want.Want as want
+use Rattle.ec_sessions.specs.OfRecall.Wants.{noted, is_of}
+use Rattle.ec_sessions.specs.declared.recall.want.Want as want
 use Rattle.ec_wire.specs.Messages.{is_held_mode}
 use Rattle.ec_cache.specs.Cache.{last}
 use Rattle.ec_cache.specs.declared.state.Held.{Held}

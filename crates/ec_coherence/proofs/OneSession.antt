@@ -10,7 +10,7 @@ use Rattle.ec_volume.specs.Update.{member, operands}
 use Rattle.ec_volume.specs.declared.update.Update.{Update}
 use Rattle.ec_order.specs.Order.{share, needs}
 use Rattle.ec_history.specs.History.{Op}
-use Rattle.ec_laws.proofs.Pulled.{needs-strangers}
+use Rattle.ec_history.proofs.OfLaws.Pulled.{needs-strangers}
 use Rattle.ec_base.specs.Holds.{rank, clash, is_write}
 use Rattle.ec_cache.specs.Cache.{last}
 use Rattle.ec_cache.specs.declared.state.Held.{Held}

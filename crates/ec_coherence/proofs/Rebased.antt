@@ -16,8 +16,8 @@ use Rattle.ec_history.specs.Legal.{IsLegal, IsLegalNext, IsReported, IsFull, IsR
 use Rattle.ec_history.specs.declared.entry.Answer.TheVariants as answer
 use Rattle.ec_history.specs.declared.entry.Entry.{Entry}
 use Rattle.ec_history.specs.declared.entry.Entry.TheVariants as entry
-use Rattle.ec_laws.proofs.Numbers.{each-append}
-use Rattle.ec_laws.proofs.BasesAlike.{each-map}
+use Rattle.ec_history.proofs.OfLaws.Numbers.{each-append}
+use Rattle.ec_history.proofs.OfLaws.BasesAlike.{each-map}
 
 -- the fresh ids are the same at the places of these entries
 abbrev pub Alike : (ℕ → ℕ) → (ℕ → ℕ) → History → Type 0

@@ -9,11 +9,11 @@ use Rattle.ec_volume.specs.declared.image.Image.TheVariants.{Gone}
 use Rattle.ec_history.specs.History.{Each}
 use Rattle.ec_sessions.specs.Slots.{run}
 use Rattle.ec_base.specs.Holds.{clash}
-use Rattle.ec_tokens.specs.Laws.{sound_granted, holder_has}
-use Rattle.ec_tokens.specs.Tokens as tokens
-use Rattle.ec_tokens.specs.SoundTokens as sound_tokens
-use Rattle.ec_tokens.specs.declared.token.Token.{Token}
-use Rattle.ec_recall.specs.declared.want.Want as want
+use Rattle.ec_sessions.specs.OfTokens.Laws.{sound_granted, holder_has}
+use Rattle.ec_sessions.specs.OfTokens.Tokens as tokens
+use Rattle.ec_sessions.specs.OfTokens.SoundTokens as sound_tokens
+use Rattle.ec_sessions.specs.declared.tokens.token.Token.{Token}
+use Rattle.ec_sessions.specs.declared.recall.want.Want as want
 use Rattle.ec_cache.specs.Cache.{last}
 use Rattle.ec_protocol.specs.Server.{with_ids}
 use Rattle.ec_coherence.specs.System.{recorded, eff_from}

@@ -5,7 +5,7 @@ use Rattle.ec_base.specs.declared.ids.Hold.{Hold}
 use Rattle.ec_base.specs.declared.ids.Hold.TheVariants.{Free, Read, Write}
 use Rattle.ec_volume.specs.declared.image.Image.{Image}
 use Rattle.ec_base.specs.Holds.{rank, is_write}
-use Rattle.ec_tokens.specs.declared.token.Token.{Token}
+use Rattle.ec_sessions.specs.declared.tokens.token.Token.{Token}
 use Rattle.ec_wire.specs.Messages.{is_held_mode}
 use Rattle.ec_cache.specs.Cache.{held_mode}
 use Rattle.ec_cache.specs.declared.state.Held.{Held}

@@ -12,15 +12,15 @@ use Rattle.ec_volume.specs.Update.{member}
 use Rattle.ec_volume.specs.Volume.{images}
 use Rattle.ec_history.specs.History.{Each}
 use Rattle.ec_base.specs.Holds.{clash, rank, is_free, is_write}
-use Rattle.ec_tokens.specs.Laws.{holder_has, clear_of}
-use Rattle.ec_tokens.specs.Tokens as tokens
-use Rattle.ec_tokens.specs.SoundTokens as sound_tokens
-use Rattle.ec_tokens.specs.declared.token.Token.{Token}
-use Rattle.ec_recall.specs.Due.{is_due, given_to, recall_to, news, recall_of, told_of, actions_from, wants_from}
-use Rattle.ec_recall.specs.Wants.{is_of}
-use Rattle.ec_recall.specs.declared.want.Want as want
-use Rattle.ec_recall.specs.declared.want.Action.{Action}
-use Rattle.ec_recall.specs.declared.want.Action.TheVariants as action
+use Rattle.ec_sessions.specs.OfTokens.Laws.{holder_has, clear_of}
+use Rattle.ec_sessions.specs.OfTokens.Tokens as tokens
+use Rattle.ec_sessions.specs.OfTokens.SoundTokens as sound_tokens
+use Rattle.ec_sessions.specs.declared.tokens.token.Token.{Token}
+use Rattle.ec_sessions.specs.OfRecall.Due.{is_due, given_to, recall_to, news, recall_of, told_of, actions_from, wants_from}
+use Rattle.ec_sessions.specs.OfRecall.Wants.{is_of}
+use Rattle.ec_sessions.specs.declared.recall.want.Want as want
+use Rattle.ec_sessions.specs.declared.recall.want.Action.{Action}
+use Rattle.ec_sessions.specs.declared.recall.want.Action.TheVariants as action
 use Rattle.ec_wire.specs.Messages.{is_held_mode}
 use Rattle.ec_wire.specs.declared.msg.Msg.{Msg}
 use Rattle.ec_wire.specs.declared.msg.Msg.TheVariants.{Grant, Recall}

@@ -13,7 +13,7 @@ use Rattle.ec_sessions.specs.declared.slot.Slot.{Slot}
 use Rattle.ec_wire.specs.declared.msg.Msg.TheVariants.{Opened}
 use Rattle.ec_durable.specs.Durable.{slot, step}
 use Rattle.ec_durable.specs.declared.record.Record.TheVariants as record_of
-use Rattle.ec_tokens.specs.Tokens as tokens
+use Rattle.ec_sessions.specs.OfTokens.Tokens as tokens
 use Rattle.ec_protocol.specs.Server.{Serving, open_new}
 use Rattle.ec_coherence.specs.System.{System, Ghost, eff_from, is_of, is_open, undurable}
 use Rattle.ec_coherence.specs.Sessions.{IsReached}
@@ -36,7 +36,7 @@ use Rattle.ec_coherence.proofs.Watched.{reslotted-watches}
 use Rattle.ec_base.proofs.Bools.{left as and_first, not-both as no_both, off-of, is-true, holds-true as holds}
 use Rattle.ec_base.proofs.Options.{none_some}
 use Rattle.ec_base.proofs.Numbers.{equal}
-use Rattle.ec_laws.proofs.LateLoss.{filter-none}
+use Rattle.ec_history.proofs.OfLaws.LateLoss.{filter-none}
 
 module _ (g : System) (γ : Ghost) (t : Serving) (u : Under g t γ) (none : t.rec ≡ None) (c : ℕ) (age : Age) (within : c < 16)
     (idle : (sl : Slot) → slot t.server.durable c ≡ Some sl → T (not sl.is_open)) (greater : (sl : Slot) → slot t.server.durable c ≡ Some sl → T (is_older sl.age age))

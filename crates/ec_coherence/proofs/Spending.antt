@@ -3,9 +3,9 @@ use Rattle.std.proofs.Common.{◌+◌, ℕ, zero, suc, Bool, true, false, T, Lis
 use Rattle.std.specs.Prelude.{is_some}
 use Rattle.std.specs.List.{list_any}
 use Rattle.ec_base.specs.declared.counter.Counter.TheVariants as counter
-use Rattle.ec_recall.specs.Due.{actions, wants_after}
-use Rattle.ec_recall.specs.declared.want.Action.{Action}
-use Rattle.ec_recall.specs.declared.want.Action.TheVariants as action
+use Rattle.ec_sessions.specs.OfRecall.Due.{actions, wants_after}
+use Rattle.ec_sessions.specs.declared.recall.want.Action.{Action}
+use Rattle.ec_sessions.specs.declared.recall.want.Action.TheVariants as action
 use Rattle.ec_protocol.specs.Server.{Serving, act, act_all, all_claimed, first_spent, is_grant, is_last_number, serve, serve_rounds, with_server}
 use Rattle.ec_coherence.proofs.Serve.{still-spent}
 

@@ -7,9 +7,9 @@ use Rattle.ec_base.specs.declared.counter.Counter.TheVariants as counter
 use Rattle.ec_base.specs.declared.ids.Age.{Age}
 use Rattle.ec_volume.specs.Update.{member}
 use Rattle.ec_history.specs.History.{Each, Op, of_start}
-use Rattle.ec_recall.specs.Due.{actions, wants_after}
-use Rattle.ec_recall.specs.declared.want.Action.{Action}
-use Rattle.ec_recall.specs.declared.want.Action.TheVariants as action
+use Rattle.ec_sessions.specs.OfRecall.Due.{actions, wants_after}
+use Rattle.ec_sessions.specs.declared.recall.want.Action.{Action}
+use Rattle.ec_sessions.specs.declared.recall.want.Action.TheVariants as action
 use Rattle.ec_wire.specs.declared.msg.Msg.{Msg}
 use Rattle.ec_protocol.specs.Server.{Serving, act, act_all, all_claimed, first_spent, is_grant, is_last_number, next_number, serve, serve_rounds, with_server}
 use Rattle.ec_protocol.specs.declared.clerk.Clerk.{Clerk}

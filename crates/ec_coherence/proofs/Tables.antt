@@ -9,9 +9,9 @@ use Rattle.ec_base.specs.Tables.{Table, at, put, without}
 use Rattle.ec_base.specs.declared.ids.Hold.{Hold}
 use Rattle.ec_base.specs.declared.ids.Hold.TheVariants.{Free, Read, Write}
 use Rattle.ec_history.specs.History.{Each}
-use Rattle.ec_tokens.specs.declared.token.Token.{Token}
+use Rattle.ec_sessions.specs.declared.tokens.token.Token.{Token}
 use Rattle.ec_base.specs.Holds.{rank, is_free, is_write, clash}
-use Rattle.ec_tokens.specs.Tokens as tokens
+use Rattle.ec_sessions.specs.OfTokens.Tokens as tokens
 use Rattle.ec_wire.specs.Messages.{is_held_mode}
 use Rattle.ec_base.proofs.Numbers.{equal}
 

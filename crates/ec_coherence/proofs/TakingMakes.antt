@@ -11,8 +11,8 @@ use Rattle.ec_base.specs.declared.ids.Age.{Age}
 use Rattle.ec_base.specs.declared.ids.Hold.{Hold}
 use Rattle.ec_volume.specs.Update.{member}
 use Rattle.ec_volume.specs.declared.update.Update.{Update}
-use Rattle.ec_tokens.specs.Tokens.{claimed, first_clash, fits_back, lowered, token}
-use Rattle.ec_tokens.specs.declared.token.Token.{Token}
+use Rattle.ec_sessions.specs.OfTokens.Tokens.{claimed, first_clash, fits_back, lowered, token}
+use Rattle.ec_sessions.specs.declared.tokens.token.Token.{Token}
 use Rattle.ec_sessions.specs.Slots.{greeting, run, session_if_open}
 use Rattle.ec_sessions.specs.Windows.{has}
 use Rattle.ec_sessions.specs.declared.slot.Greeting.TheVariants as greeted_of

@@ -14,9 +14,9 @@ use Rattle.ec_history.specs.History.{Base, History, Op, Each, kept, numbers, of_
 use Rattle.ec_history.specs.Legal.{leaves, is_call_of_other}
 use Rattle.ec_history.specs.declared.entry.Answer.{Answer}
 use Rattle.ec_history.specs.declared.entry.Entry.{Entry}
-use Rattle.ec_report.specs.Report.{Owed}
-use Rattle.ec_resolve.specs.declared.verdict.Verdict.{Verdict}
-use Rattle.ec_resolve.specs.declared.verdict.Verdict.TheVariants.{Need, Lost, NeedIds, Done}
+use Rattle.ec_cache.specs.OfReport.Report.{Owed}
+use Rattle.ec_cache.specs.declared.resolve.verdict.Verdict.{Verdict}
+use Rattle.ec_cache.specs.declared.resolve.verdict.Verdict.TheVariants.{Need, Lost, NeedIds, Done}
 use Rattle.ec_cache.specs.Cache.{holds, last}
 use Rattle.ec_cache.specs.declared.state.Held.{Held}
 use Rattle.ec_coherence.specs.Answers.{IsAt}

@@ -12,8 +12,8 @@ use Rattle.ec_log.specs.declared.state.Asked.{Asked}
 use Rattle.ec_log.specs.declared.state.Asked.TheVariants.{All}
 use Rattle.ec_log.specs.declared.state.Pick.{Pick}
 use Rattle.ec_log.specs.declared.state.Pick.TheVariants as pick_of
-use Rattle.ec_resolve.specs.declared.verdict.Verdict.{Verdict}
-use Rattle.ec_resolve.specs.declared.verdict.Verdict.TheVariants.{Need, Lost, NeedIds, Done}
+use Rattle.ec_cache.specs.declared.resolve.verdict.Verdict.{Verdict}
+use Rattle.ec_cache.specs.declared.resolve.verdict.Verdict.TheVariants.{Need, Lost, NeedIds, Done}
 use Rattle.ec_protocol.specs.declared.clerk.Waiting.{Waiting}
 use Rattle.ec_protocol.specs.Clerk.{Doing, spend, with_clerk, with_log, with_update, send_batch, send_picked, ask_for, may_want, wanted, is_wanted, send_want, want, has_session, send_room, ask_anew, ask_room, Tried, Waits, Answered, answer_with, awaited, await, is_owing, suits, issue, settle_outcome, try_verdict, try, verdict}
 use Rattle.ec_coherence.proofs.Settling.{Keeping}

@@ -14,9 +14,9 @@ use Rattle.ec_history.specs.declared.entry.Answer.TheVariants as answer
 use Rattle.ec_log.specs.Log as log
 use Rattle.ec_log.specs.declared.state.Asked.{Asked}
 use Rattle.ec_log.specs.declared.state.Asked.TheVariants.{All}
-use Rattle.ec_report.specs.Report.{clear}
-use Rattle.ec_resolve.specs.declared.verdict.Verdict.{Verdict}
-use Rattle.ec_resolve.specs.declared.verdict.Verdict.TheVariants.{Need, Lost, NeedIds, Done}
+use Rattle.ec_cache.specs.OfReport.Report.{clear}
+use Rattle.ec_cache.specs.declared.resolve.verdict.Verdict.{Verdict}
+use Rattle.ec_cache.specs.declared.resolve.verdict.Verdict.TheVariants.{Need, Lost, NeedIds, Done}
 use Rattle.ec_wire.specs.Messages.{is_held_mode}
 use Rattle.ec_protocol.specs.declared.clerk.Waiting.{Waiting}
 use Rattle.ec_protocol.specs.Clerk.{Doing, spend, with_clerk, with_update, Tried, Waits, Answered, answer_with, awaited, await, is_owing, suits, issue, issue_if_room, settle_outcome, try_verdict, try, verdict, need_of, ask_for}
@@ -28,7 +28,7 @@ use Rattle.ec_coherence.proofs.Answer.{goes-used, goes-update, goes-answer}
 use Rattle.ec_coherence.proofs.Goes.{Goes, goes-rest, goes-spend, goes-ask}
 use Rattle.ec_coherence.proofs.Seen.{seen-agrees}
 use Rattle.ec_coherence.proofs.SendWant.{goes-want-once, goes-ask-room}
-use Rattle.ec_laws.proofs.Left.{updates-next}
+use Rattle.ec_history.proofs.OfLaws.Left.{updates-next}
 
 -- whether it waits or is answered
 abbrev pub OnTried : (Doing → Type 0) → Tried → Type 0

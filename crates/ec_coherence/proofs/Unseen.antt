@@ -9,9 +9,9 @@ use Rattle.ec_history.specs.declared.entry.Entry.{Entry}
 use Rattle.ec_history.specs.declared.entry.Entry.TheVariants as entry
 use Rattle.ec_history.specs.declared.shown.Shown.{Shown}
 use Rattle.ec_history.specs.declared.shown.Shown.TheVariants as show
-use Rattle.ec_laws.proofs.Cuts.{placeable-step}
-use Rattle.ec_laws.proofs.Late.{place-no_call}
-use Rattle.ec_laws.proofs.More.{watch-step}
+use Rattle.ec_history.proofs.OfLaws.Cuts.{placeable-step}
+use Rattle.ec_history.proofs.OfLaws.Late.{place-no_call}
+use Rattle.ec_history.proofs.OfLaws.More.{watch-step}
 use Rattle.ec_sessions.specs.declared.slot.Slot.{Slot}
 use Rattle.ec_wire.specs.declared.msg.Msg.{Msg}
 use Rattle.ec_durable.specs.Durable.{slot}

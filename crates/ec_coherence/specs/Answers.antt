@@ -14,10 +14,10 @@ use Rattle.ec_history.specs.declared.entry.Entry.TheVariants as entry
 use Rattle.ec_history.specs.declared.shown.Shown.TheVariants.{Answered}
 use Rattle.ec_cache.specs.declared.state.CacheState.{CacheState}
 use Rattle.ec_cache.specs.declared.state.Held.{Held}
-use Rattle.ec_report.specs.Report.{Owed, clear}
-use Rattle.ec_resolve.specs.Agreement.{Shows}
-use Rattle.ec_resolve.specs.declared.verdict.Verdict.{Verdict}
-use Rattle.ec_resolve.specs.declared.verdict.Verdict.TheVariants.{Need, Lost, NeedIds, Done}
+use Rattle.ec_cache.specs.OfReport.Report.{Owed, clear}
+use Rattle.ec_cache.specs.OfResolve.Agreement.{Shows}
+use Rattle.ec_cache.specs.declared.resolve.verdict.Verdict.{Verdict}
+use Rattle.ec_cache.specs.declared.resolve.verdict.Verdict.TheVariants.{Need, Lost, NeedIds, Done}
 use Rattle.ec_protocol.specs.Clerk.{first_id}
 use Rattle.ec_protocol.specs.declared.clerk.Clerk.{Clerk}
 use Rattle.ec_coherence.specs.System.{System, Ghost, seen_ops}

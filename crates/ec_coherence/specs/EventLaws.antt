@@ -9,7 +9,7 @@ use Rattle.ec_history.specs.Legal.{IsLegal, IsLawful, is_closed, leaves}
 use Rattle.ec_history.specs.declared.entry.Entry.TheVariants as entry
 use Rattle.ec_plain.specs.declared.call.Call.{Call}
 use Rattle.ec_history.specs.declared.entry.Answer.{Answer}
-use Rattle.ec_report.specs.Report.{Owed}
+use Rattle.ec_cache.specs.OfReport.Report.{Owed}
 use Rattle.ec_protocol.specs.Clerk.{Doing, verdict}
 use Rattle.ec_protocol.specs.declared.clerk.Clerk.{Clerk}
 use Rattle.ec_coherence.specs.System.{System, base_of, clerk_in, is_open, undurable}

@@ -8,7 +8,7 @@ use Rattle.ec_wire.specs.declared.msg.Msg.{Msg}
 use Rattle.ec_wire.specs.declared.msg.Msg.TheVariants.{Want, Back, Claim}
 use Rattle.ec_sessions.specs.declared.slot.Slot.{Slot}
 use Rattle.ec_durable.specs.Durable.{slot}
-use Rattle.ec_tokens.specs.Tokens as tokens
+use Rattle.ec_sessions.specs.OfTokens.Tokens as tokens
 use Rattle.ec_protocol.specs.Server.{Serving, serve, start, want, back, note, tell, tell_ended, record_ids, is_last_number}
 use Rattle.ec_coherence.specs.System.{System, Ghost, is_open}
 use Rattle.ec_coherence.specs.Sessions as sessions

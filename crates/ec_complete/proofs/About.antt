@@ -6,7 +6,7 @@ use Rattle.ec_plain.specs.BoundedCalls.{is_bounded}
 use Rattle.ec_plain.specs.Plain.{plain}
 use Rattle.ec_plain.specs.declared.call.Call.{Call}
 use Rattle.ec_machine_laws.proofs.Few.{calls-few}
-use Rattle.ec_resolve.proofs.Making.{IsMaking, either-plain}
+use Rattle.ec_cache.proofs.OfResolve.Making.{IsMaking, either-plain}
 use Rattle.ec_coherence.proofs.Ids.{in-back, in-either, in-front}
 use Rattle.ec_quiet.specs.Works.{Calls, Task, Work}
 use Rattle.ec_complete.specs.WaitingCalls.{IsAbout, max_about, touched_by}

@@ -30,7 +30,7 @@ use Rattle.ec_quiet.specs.Scenes.{IsScene, Mail, Scene, delivered, is_for_server
 use Rattle.ec_quiet.specs.Works.{Work}
 use Rattle.ec_quiet.specs.Bounds.{IsFirstPhase}
 use Rattle.ec_quiet.specs.SettlingScenes.{Reaches, here, on}
-use Rattle.ec_deliveries.specs.Runs.{HasEnded, HasSettled}
+use Rattle.ec_quiet.specs.OfDeliveries.Runs.{HasEnded, HasSettled}
 use Rattle.ec_complete.specs.Begins.{bound_for, most_sent}
 use Rattle.ec_complete.specs.Complete.{IsFaultless}
 use Rattle.ec_complete.proofs.Numbers.{Below, later}

@@ -22,8 +22,8 @@ use Rattle.ec_quiet.proofs.Counting.{calls, pushes}
 use Rattle.ec_quiet.proofs.Mail.{few, pending-is}
 use Rattle.ec_quiet.proofs.Showing.{settled-lines}
 use Rattle.ec_quiet.proofs.Ending.{ends}
-use Rattle.ec_deliveries.specs.Runs.{HasSettled}
-use Rattle.ec_deliveries.proofs.Lines.{line-settles}
+use Rattle.ec_quiet.specs.OfDeliveries.Runs.{HasSettled}
+use Rattle.ec_quiet.proofs.OfDeliveries.Lines.{line-settles}
 use Rattle.ec_complete.specs.Complete.{IsFaultless, IsFaultlessRead}
 use Rattle.ec_complete.specs.SettledRuns.{EachSettles}
 use Rattle.ec_complete.specs.Begins.{BeginsLine, EachBegins, IsBegun, RunsSettle, bound_for, most_sent}

@@ -15,9 +15,9 @@ use Rattle.ec_machine_laws.proofs.Evicting.{evicted-free, goes-back, stays-held}
 use Rattle.ec_protocol.specs.Clerk.{Answered, Doing, Tried, Waits, add_call, begin, doing, epoch, evict, evict_unpinned, on_objects, send, send_backs, session, settle, spend, try, with_cache}
 use Rattle.ec_protocol.specs.declared.clerk.Clerk.{Clerk}
 use Rattle.ec_protocol.specs.declared.clerk.Waiting.{Waiting}
-use Rattle.ec_clerk_steps.specs.CallLaws.{IsStillIf}
-use Rattle.ec_clerk_steps.proofs.Quiets.{quiet-evict}
-use Rattle.ec_clerk_steps.proofs.Still.{tries-answer}
+use Rattle.ec_lawful.specs.OfClerkSteps.CallLaws.{IsStillIf}
+use Rattle.ec_lawful.proofs.OfClerkSteps.Quiets.{quiet-evict}
+use Rattle.ec_lawful.proofs.OfClerkSteps.Still.{tries-answer}
 use Rattle.ec_quiet.specs.Tries.{left_by}
 use Rattle.ec_quiet.proofs.Steps.{prepared, tries-one}
 use Rattle.ec_complete.proofs.Stepping.{settle-still}

@@ -27,14 +27,14 @@ use Rattle.ec_quiet.specs.Phases.{Phase, Greets, Opens, Claims, Wants, Recalls, 
 use Rattle.ec_quiet.specs.Scenes.{IsScene, Scene}
 use Rattle.ec_quiet.specs.Works.{Work}
 use Rattle.ec_quiet.specs.Tries.{HasCounters}
-use Rattle.ec_agreed_lines.specs.Worlds.{IsSeen}
-use Rattle.ec_agreed_lines.proofs.Seen.{clerk-there, scenes-seen}
+use Rattle.ec_complete.specs.OfAgreedLines.Worlds.{IsSeen}
+use Rattle.ec_complete.proofs.OfAgreedLines.Seen.{clerk-there, scenes-seen}
 use Rattle.ec_complete.proofs.Pinned.{in-store, once-each, stored-few, stored_ids}
-use Rattle.ec_agreed_lines.specs.Counting.{IsCounted}
+use Rattle.ec_complete.specs.OfAgreedLines.Counting.{IsCounted}
 use Rattle.ec_complete.specs.Lines.{IsOnLine, IsSpare}
 use Rattle.ec_complete.proofs.Standing.{InSlot, in-slot, other}
 use Rattle.ec_complete.specs.Spare.{IsBelow, IsFarBelow, NextIsSpare, granted_below, max_calls, max_given, open_grants}
-use Rattle.ec_deliveries.specs.Coming.{HasNext}
+use Rattle.ec_quiet.specs.OfDeliveries.Coming.{HasNext}
 use Rattle.ec_base.proofs.Numbers.{equal, not-above, not-at}
 use Rattle.ec_base.proofs.Bools.{is-true, holds-true as holds}
 

@@ -23,9 +23,9 @@ use Rattle.ec_quiet.specs.Works.{Calls, HasTask, Work}
 use Rattle.ec_quiet.specs.Bounds.{IsFirstPhase}
 use Rattle.ec_quiet.specs.Frames.{IsAsked}
 use Rattle.ec_quiet.specs.Goes.{MayGo}
-use Rattle.ec_agreed_lines.specs.Counting as clerks
-use Rattle.ec_agreed_lines.specs.Counting.{sent_in}
-use Rattle.ec_agreed_lines.specs.Lines.{HasBegun, IsAt}
+use Rattle.ec_complete.specs.OfAgreedLines.Counting as clerks
+use Rattle.ec_complete.specs.OfAgreedLines.Counting.{sent_in}
+use Rattle.ec_complete.specs.OfAgreedLines.Lines.{HasBegun, IsAt}
 use Rattle.ec_complete.specs.WaitingCalls.{kept_volume, touched_by}
 use Rattle.ec_complete.specs.Lines.{IsOnLine, next_object}
 use Rattle.ec_complete.specs.FirstSteps.{IsTold}

@@ -18,17 +18,17 @@ use Rattle.ec_quiet.specs.Scenes.{IsScene, Scene, done_by}
 use Rattle.ec_quiet.specs.Works.{Work}
 use Rattle.ec_quiet.proofs.Calling.{called}
 use Rattle.ec_quiet.specs.Goes.{MayGo}
-use Rattle.ec_agreed_lines.specs.Lines.{HasBegun}
-use Rattle.ec_agreed_lines.proofs.Beginning.{begins}
+use Rattle.ec_complete.specs.OfAgreedLines.Lines.{HasBegun}
+use Rattle.ec_complete.proofs.OfAgreedLines.Beginning.{begins}
 use Rattle.ec_complete.specs.WaitingCalls.{kept_volume, touched_by}
 use Rattle.ec_complete.specs.Lines.{IsOnLine, next_object}
 use Rattle.ec_complete.specs.LineCalls.{IsCalled, LeavesVolume}
 use Rattle.ec_complete.proofs.May as may
 use Rattle.ec_complete.proofs.On.{calls-leave-kept}
 use Rattle.ec_complete.specs.Worlds.{IsCounted, Outset}
-use Rattle.ec_deliveries.specs.PhasesBehind.{IsBehind, Sees}
-use Rattle.ec_deliveries.proofs.Begun.{calls-begin}
-use Rattle.ec_deliveries.proofs.Seen.{shown-seen}
+use Rattle.ec_quiet.specs.OfDeliveries.PhasesBehind.{IsBehind, Sees}
+use Rattle.ec_quiet.proofs.OfDeliveries.Begun.{calls-begin}
+use Rattle.ec_quiet.proofs.OfDeliveries.Seen.{shown-seen}
 use Rattle.ec_complete.specs.Following.{BeginsBehind, IsCountedIn, IsWorked}
 use Rattle.ec_complete.proofs.Following.{same-scene}
 use Rattle.ec_complete.proofs.Seeing.{shows}

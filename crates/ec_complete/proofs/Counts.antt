@@ -19,8 +19,8 @@ use Rattle.ec_quiet.specs.Works.{Work, is_saving}
 use Rattle.ec_quiet.proofs.Terms.{put-value}
 use Rattle.ec_quiet.specs.Frames.{IsAsked}
 use Rattle.ec_machine_laws.specs.Counts as server
-use Rattle.ec_agreed_lines.specs.Counting as clerks
-use Rattle.ec_agreed_lines.specs.Counting.{sent_in}
+use Rattle.ec_complete.specs.OfAgreedLines.Counting as clerks
+use Rattle.ec_complete.specs.OfAgreedLines.Counting.{sent_in}
 use Rattle.ec_quiet.specs.SettlingCounts as settling
 use Rattle.ec_quiet.proofs.Mail.{pending-is, parts}
 use Rattle.ec_machine_laws.specs.Unspent as unspent

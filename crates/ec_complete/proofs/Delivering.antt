@@ -26,9 +26,9 @@ use Rattle.ec_coherence.specs.Makes.{IsMade, Makes}
 use Rattle.ec_lawful.proofs.Frames.{settled-stands}
 use Rattle.ec_lawful.proofs.Serving.{served-stands}
 use Rattle.ec_lawful.proofs.Standing.{done-stands}
-use Rattle.ec_clerk_steps.specs.Frees.{FullsAgree}
-use Rattle.ec_clerk_steps.specs.Fulls.{AreFullAt, IsFullAt}
-use Rattle.ec_clerk_steps.proofs.Served.{take-right}
+use Rattle.ec_lawful.specs.OfClerkSteps.Frees.{FullsAgree}
+use Rattle.ec_lawful.specs.OfClerkSteps.Fulls.{AreFullAt, IsFullAt}
+use Rattle.ec_lawful.proofs.OfClerkSteps.Served.{take-right}
 use Rattle.ec_lawful.proofs.Server.{whole-served}
 use Rattle.ec_lawful.specs.Taking.{AnswersNone}
 use Rattle.ec_quiet.specs.Facts.{WantIsAnswered}
@@ -39,8 +39,8 @@ use Rattle.ec_quiet.proofs.Sending.{IsFirst}
 use Rattle.ec_quiet.proofs.Delivering as delivering
 use Rattle.ec_quiet.proofs.Delivering.{due-is}
 use Rattle.ec_quiet.proofs.Beside.{other-at, own-at}
-use Rattle.ec_agreed_lines.specs.Worlds.{IsSeen}
-use Rattle.ec_agreed_lines.proofs.Seen.{scenes-seen}
+use Rattle.ec_complete.specs.OfAgreedLines.Worlds.{IsSeen}
+use Rattle.ec_complete.proofs.OfAgreedLines.Seen.{scenes-seen}
 use Rattle.ec_complete.specs.WaitingCalls.{IsAbout, kept_volume}
 use Rattle.ec_complete.specs.Lines.{IsOnLine, IsSpare, next_object}
 use Rattle.ec_complete.proofs.Taking.{next-sent, runs-in}

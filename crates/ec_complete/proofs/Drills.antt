@@ -17,7 +17,7 @@ use Rattle.ec_coherence.proofs.Ids.{in-back}
 use Rattle.ec_lawful.specs.Headline.{placed_on}
 use Rattle.ec_lawful.specs.Drills.{lines_in}
 use Rattle.ec_lawful.specs.DrillRuns.{AreFit}
-use Rattle.ec_deliveries.specs.Runs.{AllRun}
+use Rattle.ec_quiet.specs.OfDeliveries.Runs.{AllRun}
 use Rattle.ec_complete.specs.Complete.{IsFaultlessRead}
 use Rattle.ec_complete.specs.Goes.{LinesGoOn}
 use Rattle.ec_complete.specs.Ready.{IsReady, OpeningsAreReady}

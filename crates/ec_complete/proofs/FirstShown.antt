@@ -22,10 +22,10 @@ use Rattle.ec_lawful.specs.Calls.{AreOf, IsOf}
 use Rattle.ec_lawful.proofs.CallsShown.{event-tells}
 use Rattle.ec_quiet.specs.Works.{Calls, Work}
 use Rattle.ec_complete.specs.Complete.{IsFaultless}
-use Rattle.ec_deliveries.specs.PhasesBehind.{AsksOf}
-use Rattle.ec_deliveries.specs.WithinClosures.{AreWithin, IsWithin}
-use Rattle.ec_deliveries.specs.Scripts.{AreWriteBehind, IsWriteBehind}
-use Rattle.ec_agreed_lines.proofs.Lines.{call-within, push-within}
+use Rattle.ec_quiet.specs.OfDeliveries.PhasesBehind.{AsksOf}
+use Rattle.ec_quiet.specs.OfDeliveries.WithinClosures.{AreWithin, IsWithin}
+use Rattle.ec_quiet.specs.OfDeliveries.Scripts.{AreWriteBehind, IsWriteBehind}
+use Rattle.ec_complete.proofs.OfAgreedLines.Lines.{call-within, push-within}
 
 -- A work that asks for nothing.
 abbrev none : Work

@@ -15,7 +15,7 @@ use Rattle.ec_complete.proofs.Sums.{once-below, sum-both, sum-less}
 use Rattle.ec_complete.specs.PlainScripts.{behind_line, makes, makes_one}
 use Rattle.ec_base.specs.Bools.{one_if}
 use Rattle.ec_base.proofs.Lists.{regroup, no-more}
-use Rattle.ec_chains.proofs.Chained.{member-left}
+use Rattle.ec_log.proofs.OfChains.Chained.{member-left}
 
 -- Lines and calls.
 

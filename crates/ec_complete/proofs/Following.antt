@@ -7,7 +7,7 @@ use Rattle.ec_volume.specs.Volume.{Images, WellFormed}
 use Rattle.ec_history.specs.History.{Throughout}
 use Rattle.ec_history.specs.Placing.{place}
 use Rattle.ec_wire.specs.declared.msg.Msg.{Msg}
-use Rattle.ec_laws.specs.NewIds.{IsNewId}
+use Rattle.ec_history.specs.OfLaws.NewIds.{IsNewId}
 use Rattle.ec_lawful.proofs.News.{ids-new}
 use Rattle.ec_protocol.specs.Drill.{onward}
 use Rattle.ec_protocol.specs.World.{Moving, deliver, due, runs}
@@ -24,23 +24,23 @@ use Rattle.ec_quiet.proofs.Settled.{behind, onward-is}
 use Rattle.ec_quiet.specs.SettlingScenes.{Reaches, here, on}
 use Rattle.ec_lawful.specs.Headline.{placed_on}
 use Rattle.ec_machine_laws.proofs.Sent.{deliveries-count}
-use Rattle.ec_agreed_lines.specs.Counting as counting
-use Rattle.ec_agreed_lines.proofs.Worlds as clerks
+use Rattle.ec_complete.specs.OfAgreedLines.Counting as counting
+use Rattle.ec_complete.proofs.OfAgreedLines.Worlds as clerks
 use Rattle.ec_complete.specs.Lines.{IsSpare}
 use Rattle.ec_complete.proofs.Taking.{can-take-next}
 use Rattle.ec_complete.proofs.Delivering.{lines-leave-kept}
 use Rattle.ec_complete.specs.Spare.{IsBelow, max_calls}
 use Rattle.ec_complete.proofs.Below.{counters-spare}
 use Rattle.ec_complete.proofs.Given.{ids-stay-given}
-use Rattle.ec_deliveries.specs.Coming.{HasNext}
-use Rattle.ec_deliveries.specs.Leading.{CanTake}
-use Rattle.ec_deliveries.proofs.Led.{deliveries-lead-on}
-use Rattle.ec_deliveries.proofs.Spending.{deliveries-have-next}
+use Rattle.ec_quiet.specs.OfDeliveries.Coming.{HasNext}
+use Rattle.ec_quiet.specs.OfDeliveries.Leading.{CanTake}
+use Rattle.ec_quiet.proofs.OfDeliveries.Led.{deliveries-lead-on}
+use Rattle.ec_quiet.proofs.OfDeliveries.Spending.{deliveries-have-next}
 use Rattle.ec_complete.specs.Begins.{most_sent}
 use Rattle.ec_complete.specs.Worlds.{IsCounted, LineIsKnown, Outset}
-use Rattle.ec_deliveries.specs.PhasesBehind.{IsBehind, MaySee}
-use Rattle.ec_agreed_lines.specs.Placed.{IsFollowed, WorksOn, WritesBehind}
-use Rattle.ec_agreed_lines.proofs.Followed.{writes-behind}
+use Rattle.ec_quiet.specs.OfDeliveries.PhasesBehind.{IsBehind, MaySee}
+use Rattle.ec_complete.specs.OfAgreedLines.Placed.{IsFollowed, WorksOn, WritesBehind}
+use Rattle.ec_complete.proofs.OfAgreedLines.Followed.{writes-behind}
 use Rattle.ec_complete.specs.Following.{IsKnownOf}
 use Rattle.ec_complete.proofs.Seeing.{worked-lines-see}
 use Rattle.ec_complete.proofs.Staying.{still-worked}

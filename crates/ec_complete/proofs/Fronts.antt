@@ -20,8 +20,8 @@ use Rattle.ec_lawful.specs.Drills.{lines_in}
 use Rattle.ec_lawful.specs.DrillRuns.{AreFit}
 use Rattle.ec_lawful.specs.Runs.{RunShows}
 use Rattle.ec_lawful.proofs.Shows.{runs-show}
-use Rattle.ec_deliveries.specs.Runs.{AllRun}
-use Rattle.ec_deliveries.proofs.Running.{carries-alike}
+use Rattle.ec_quiet.specs.OfDeliveries.Runs.{AllRun}
+use Rattle.ec_quiet.proofs.OfDeliveries.Running.{carries-alike}
 use Rattle.ec_complete.specs.Complete.{IsFaultless, IsFaultlessRead}
 use Rattle.ec_complete.proofs.Ends.{no-ends}
 use Rattle.ec_complete.proofs.Plainness.{NoEnd}

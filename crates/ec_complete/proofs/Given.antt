@@ -16,13 +16,13 @@ use Rattle.ec_coherence.specs.Invariant.{Invariant}
 use Rattle.ec_coherence.specs.Steps.{Committed, serving_in}
 use Rattle.ec_coherence.specs.System.{Ghost, System}
 use Rattle.ec_coherence.specs.CommitLaws as commits
-use Rattle.ec_clerk_steps.proofs.Steps.{ids-are, ids-open}
+use Rattle.ec_lawful.proofs.OfClerkSteps.Steps.{ids-are, ids-open}
 use Rattle.ec_coherence.specs.Makes.{IsMade, Makes}
 use Rattle.ec_quiet.specs.Phases.{InPhase, Phase}
 use Rattle.ec_quiet.specs.Scenes.{IsScene, Mail, Scene, delivered, is_for_server, served, taken_by}
 use Rattle.ec_quiet.specs.Works.{Work}
-use Rattle.ec_agreed_lines.specs.Worlds.{IsSeen}
-use Rattle.ec_agreed_lines.proofs.Seen.{clerk-there, scenes-seen}
+use Rattle.ec_complete.specs.OfAgreedLines.Worlds.{IsSeen}
+use Rattle.ec_complete.proofs.OfAgreedLines.Seen.{clerk-there, scenes-seen}
 use Rattle.ec_complete.specs.Lines.{IsOnLine, IsSpare}
 use Rattle.ec_complete.proofs.Serving as serving
 use Rattle.ec_complete.proofs.Delivering.{server-unspent}

@@ -30,7 +30,7 @@ use Rattle.ec_complete.specs.Lines.{IsOnLine, next_object}
 use Rattle.ec_complete.specs.LineCalls.{IsCalledFirst, LeavesVolume}
 use Rattle.ec_complete.proofs.Starts.{starts-leave-kept}
 use Rattle.ec_complete.specs.Worlds.{IsCounted, LineIsKnown, Outset}
-use Rattle.ec_deliveries.proofs.Begun.{starts-begin}
+use Rattle.ec_quiet.proofs.OfDeliveries.Begun.{starts-begin}
 use Rattle.ec_complete.specs.Following.{BeginsBehind, IsWorked}
 use Rattle.ec_complete.proofs.Following.{same-scene}
 use Rattle.ec_complete.proofs.Works.{calls-worked}

@@ -8,7 +8,7 @@ use Rattle.ec_wire.specs.declared.msg.Msg.TheVariants as msg
 use Rattle.ec_quiet.specs.Phases.{InPhase, Phase, Greets, Opens, Claims, Wants, Recalls, Flushes, Keeps, Grants, Asks, Gives, Refuses, Saves, Saved, Ends, is_back, is_back_message, main, messages_in}
 use Rattle.ec_quiet.specs.Scenes.{Mail, Scene}
 use Rattle.ec_quiet.specs.Works.{Work}
-use Rattle.ec_deliveries.proofs.Spending.{is_room}
+use Rattle.ec_quiet.proofs.OfDeliveries.Spending.{is_room}
 
 abbrev pub is_ids : Msg → Bool
 is_ids (msg.Ids s e got n first) = true

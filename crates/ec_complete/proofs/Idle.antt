@@ -20,7 +20,7 @@ use Rattle.ec_quiet.specs.Facts.{IsIdleBut}
 use Rattle.ec_quiet.specs.Quiet.{IsQuiet}
 use Rattle.ec_quiet.specs.Scenes.{Scene}
 use Rattle.ec_quiet.specs.Tries.{HasCounters}
-use Rattle.ec_agreed_lines.specs.Counting as clerks
+use Rattle.ec_complete.specs.OfAgreedLines.Counting as clerks
 use Rattle.ec_quiet.proofs.Mail.{pending-is}
 use Rattle.ec_complete.proofs.Numbers.{unshown}
 use Rattle.ec_complete.specs.Worlds.{Outset}

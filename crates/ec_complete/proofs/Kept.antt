@@ -31,15 +31,15 @@ use Rattle.ec_quiet.specs.Phases.{Phase, Greets, Opens, Claims, Wants, Recalls, 
 use Rattle.ec_quiet.specs.Quiet.{IsIdle}
 use Rattle.ec_quiet.specs.Scenes.{IsScene, Scene}
 use Rattle.ec_quiet.specs.Works.{Work}
-use Rattle.ec_agreed_lines.specs.Worlds.{IsSeen}
-use Rattle.ec_agreed_lines.proofs.Seen.{clerk-there, scenes-seen}
+use Rattle.ec_complete.specs.OfAgreedLines.Worlds.{IsSeen}
+use Rattle.ec_complete.proofs.OfAgreedLines.Seen.{clerk-there, scenes-seen}
 use Rattle.ec_complete.specs.WaitingCalls.{kept_volume}
 use Rattle.ec_complete.proofs.Standing.{other}
 use Rattle.ec_complete.specs.FirstSteps.{IsStepOf, IsTold}
 use Rattle.ec_base.proofs.Options.{none_some}
 use Rattle.ec_base.proofs.Numbers.{equal}
 use Rattle.ec_base.proofs.Bools.{not-both as no_both, is-true}
-use Rattle.ec_clerk_steps.proofs.Issue.{held-of}
+use Rattle.ec_lawful.proofs.OfClerkSteps.Issue.{held-of}
 
 -- An operation that is there is what each of them is.
 abbrev IsAmong : Op → List Op → Type 0

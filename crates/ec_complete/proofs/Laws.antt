@@ -13,10 +13,10 @@ use Rattle.ec_durable.specs.Durable.{slot}
 use Rattle.ec_durable.specs.WellFormed.{WellFormed}
 use Rattle.ec_durable.specs.declared.state.Durable.{Durable}
 use Rattle.ec_cache.specs.declared.state.CacheState.{CacheState}
-use Rattle.ec_report.specs.Report.{Owed}
-use Rattle.ec_resolve.specs.Agreement.{IsFor, Shows}
-use Rattle.ec_resolve.specs.Resolve.{evaluate}
-use Rattle.ec_resolve.specs.declared.verdict.Verdict.TheVariants.{Need}
+use Rattle.ec_cache.specs.OfReport.Report.{Owed}
+use Rattle.ec_cache.specs.OfResolve.Agreement.{IsFor, Shows}
+use Rattle.ec_cache.specs.OfResolve.Resolve.{evaluate}
+use Rattle.ec_cache.specs.declared.resolve.verdict.Verdict.TheVariants.{Need}
 use Rattle.ec_protocol.specs.World as world
 use Rattle.ec_protocol.specs.World.{call, deliver, happen, open_world, runs}
 use Rattle.ec_protocol.specs.declared.clerk.Clerk.{Clerk}
@@ -35,13 +35,13 @@ use Rattle.ec_quiet.specs.Works.{Work}
 use Rattle.ec_quiet.specs.Bounds.{IsFirstPhase, other_rows}
 use Rattle.ec_quiet.specs.SettlingScenes.{DeliveriesKeepScenes, EndsAreIdle, NothingIsDue}
 use Rattle.ec_machine_laws.specs.Counts as server
-use Rattle.ec_agreed_lines.specs.Counting as clerks
+use Rattle.ec_complete.specs.OfAgreedLines.Counting as clerks
 use Rattle.ec_quiet.specs.SettlingCounts as settling
-use Rattle.ec_agreed_lines.specs.Lines.{CallsBegin}
+use Rattle.ec_complete.specs.OfAgreedLines.Lines.{CallsBegin}
 use Rattle.ec_quiet.specs.First.{PushesBegin, StartsGreet}
 use Rattle.ec_complete.specs.LineCalls.{CallsComeOn, CallsMayBegin, StartsComeOn}
 use Rattle.ec_quiet.specs.Lines.{CallsAreCarriedOut, EndsKeepScenes}
-use Rattle.ec_deliveries.specs.Runs.{LinesSettle, LinesSettleOrEnd}
+use Rattle.ec_quiet.specs.OfDeliveries.Runs.{LinesSettle, LinesSettleOrEnd}
 use Rattle.ec_complete.specs.Quiet.{IdleWorldsAreQuiet}
 use Rattle.ec_machine_laws.specs.Unspent.{CallsSpendNothing}
 use Rattle.ec_complete.specs.SettledRuns.{RunsThatSettleArePlain}
@@ -57,11 +57,11 @@ use Rattle.ec_quiet.proofs.Counted.{rows-fewer}
 use Rattle.ec_quiet.proofs.Delivering as delivering
 use Rattle.ec_quiet.proofs.Idle.{all-idle}
 use Rattle.ec_machine_laws.proofs.Sent as sent
-use Rattle.ec_agreed_lines.proofs.Steps as steps
-use Rattle.ec_agreed_lines.proofs.Worlds as worlds
+use Rattle.ec_complete.proofs.OfAgreedLines.Steps as steps
+use Rattle.ec_complete.proofs.OfAgreedLines.Worlds as worlds
 use Rattle.ec_quiet.proofs.Counting as counting
 use Rattle.ec_quiet.proofs.Showing.{settled-lines}
-use Rattle.ec_agreed_lines.proofs.Beginning as beginning
+use Rattle.ec_complete.proofs.OfAgreedLines.Beginning as beginning
 use Rattle.ec_quiet.proofs.Pushing as pushing
 use Rattle.ec_quiet.proofs.Starting as starting
 use Rattle.ec_complete.proofs.Taking.{can-take-next}
@@ -73,8 +73,8 @@ use Rattle.ec_complete.proofs.On as coming
 use Rattle.ec_complete.proofs.Starts as first
 use Rattle.ec_quiet.proofs.Ending.{ends}
 use Rattle.ec_quiet.proofs.Stepping.{called-on}
-use Rattle.ec_deliveries.proofs.Ended as ended
-use Rattle.ec_deliveries.proofs.Lines as lines
+use Rattle.ec_quiet.proofs.OfDeliveries.Ended as ended
+use Rattle.ec_quiet.proofs.OfDeliveries.Lines as lines
 use Rattle.ec_complete.proofs.Quieting.{quiets}
 use Rattle.ec_machine_laws.proofs.Taking as unspent
 use Rattle.ec_complete.proofs.Runs.{completes}

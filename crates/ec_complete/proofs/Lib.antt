@@ -76,3 +76,4 @@ mod Issued
 mod Fronts
 mod NobodyRuns
 pub mod PlainScripts
+pub mod OfAgreedLines

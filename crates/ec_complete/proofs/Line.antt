@@ -16,13 +16,13 @@ use Rattle.ec_quiet.specs.Scenes.{IsScene, Scene}
 use Rattle.ec_quiet.specs.Works.{Work}
 use Rattle.ec_quiet.specs.SettlingScenes.{Reaches}
 use Rattle.ec_quiet.proofs.Delivering as delivering
-use Rattle.ec_deliveries.specs.Runs.{HasEnded}
+use Rattle.ec_quiet.specs.OfDeliveries.Runs.{HasEnded}
 use Rattle.ec_complete.specs.Spare.{max_calls}
 use Rattle.ec_complete.specs.Worlds.{Outset}
 use Rattle.ec_complete.specs.Begins.{most_sent}
 use Rattle.ec_complete.specs.Complete.{IsFaultless}
-use Rattle.ec_deliveries.specs.Scripts.{AreWriteBehind}
-use Rattle.ec_agreed_lines.specs.Placed as placed
+use Rattle.ec_quiet.specs.OfDeliveries.Scripts.{AreWriteBehind}
+use Rattle.ec_complete.specs.OfAgreedLines.Placed as placed
 use Rattle.ec_complete.specs.Following.{BeginsBehind}
 use Rattle.ec_complete.proofs.Following.{writes}
 use Rattle.ec_complete.proofs.FirstShown.{both-behind, first-adds, first-behind}

@@ -31,9 +31,9 @@ use Rattle.ec_quiet.specs.Scenes.{IsScene, Scene}
 use Rattle.ec_complete.proofs.Quieting.{quiets}
 use Rattle.ec_machine_laws.specs.Answers.{asking_in}
 use Rattle.ec_machine_laws.specs.PlainLines.{asked_in}
-use Rattle.ec_agreed_lines.specs.Answered.{LineIsAnswered, IsCalled, NoneCalls}
-use Rattle.ec_agreed_lines.proofs.Reaching.{calls-once, others-none}
-use Rattle.ec_deliveries.specs.Runs.{HasSettled}
+use Rattle.ec_complete.specs.OfAgreedLines.Answered.{LineIsAnswered, IsCalled, NoneCalls}
+use Rattle.ec_complete.proofs.OfAgreedLines.Reaching.{calls-once, others-none}
+use Rattle.ec_quiet.specs.OfDeliveries.Runs.{HasSettled}
 use Rattle.ec_complete.specs.Complete.{IsFaultless}
 use Rattle.ec_complete.proofs.Numbers.{Below, later, unshown}
 use Rattle.ec_base.proofs.Lists.{regroup, no-more}

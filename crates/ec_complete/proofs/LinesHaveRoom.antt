@@ -27,9 +27,9 @@ use Rattle.ec_quiet.specs.Works.{Work}
 use Rattle.ec_quiet.proofs.Delivering as delivering
 use Rattle.ec_quiet.proofs.Settled.{behind, onward-is}
 use Rattle.ec_quiet.specs.SettlingScenes.{Reaches, here, on}
-use Rattle.ec_agreed_lines.proofs.Seen.{scenes-seen}
+use Rattle.ec_complete.proofs.OfAgreedLines.Seen.{scenes-seen}
 use Rattle.ec_machine_laws.proofs.Sent.{deliveries-count}
-use Rattle.ec_agreed_lines.proofs.Worlds as clerks
+use Rattle.ec_complete.proofs.OfAgreedLines.Worlds as clerks
 use Rattle.ec_complete.proofs.Taking.{can-take-next}
 use Rattle.ec_complete.proofs.Delivering.{lines-stay-on}
 use Rattle.ec_complete.specs.Spare.{max_calls}
@@ -46,7 +46,7 @@ use Rattle.ec_complete.proofs.Showing.{both}
 use Rattle.ec_complete.proofs.Showing as showing
 use Rattle.ec_complete.proofs.Stocks.{outs-room, stock-then}
 use Rattle.ec_base.proofs.Options.{none_some}
-use Rattle.ec_deliveries.proofs.Spending.{is_room}
+use Rattle.ec_quiet.proofs.OfDeliveries.Spending.{is_room}
 
 -- A world has one scene.
 pub same-scene : (w : World) (a b : Scene) → IsScene w a → IsScene w b → a ≡ b

@@ -10,11 +10,11 @@ use Rattle.ec_volume.specs.declared.update.Update.TheVariants.{Make, Drop, Move,
 use Rattle.ec_plain.specs.Plain.{plain}
 use Rattle.ec_plain.specs.declared.call.Call.{Call}
 use Rattle.ec_plain.specs.declared.call.Outcome.{Outcome}
-use Rattle.ec_laws.proofs.Fresh.{plain-makes}
+use Rattle.ec_history.proofs.OfLaws.Fresh.{plain-makes}
 use Rattle.ec_cache.specs.Cache.{images_held}
-use Rattle.ec_resolve.specs.Agreement.{IsFor, IsWithoutId, Shows}
-use Rattle.ec_resolve.specs.declared.verdict.Verdict.TheVariants.{Done, NeedIds}
-use Rattle.ec_resolve.proofs.Verdicts.{done-says, ids-says}
+use Rattle.ec_cache.specs.OfResolve.Agreement.{IsFor, IsWithoutId, Shows}
+use Rattle.ec_cache.specs.declared.resolve.verdict.Verdict.TheVariants.{Done, NeedIds}
+use Rattle.ec_cache.proofs.OfResolve.Verdicts.{done-says, ids-says}
 use Rattle.ec_protocol.specs.Clerk.{first_id, verdict}
 use Rattle.ec_protocol.specs.declared.clerk.Clerk.{Clerk}
 use Rattle.ec_lawful.specs.Creates.{creates}

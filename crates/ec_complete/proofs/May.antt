@@ -18,11 +18,11 @@ use Rattle.ec_coherence.specs.System.{System, is_open}
 use Rattle.ec_coherence.proofs.Ids.{in-back}
 use Rattle.ec_coherence.proofs.OpenSlots.{at-open}
 use Rattle.ec_coherence.proofs.ClerkIn.{start-same}
-use Rattle.ec_clerk_steps.specs.Frees.{FreesAgree}
-use Rattle.ec_clerk_steps.specs.Trying.{IsTrying}
-use Rattle.ec_clerk_steps.specs.Zeros.{HasNoZero, ZerosAgree}
-use Rattle.ec_clerk_steps.proofs.ZerosBehind.{steps-keep}
-use Rattle.ec_clerk_steps.proofs.FreesStored.{stills-keep}
+use Rattle.ec_lawful.specs.OfClerkSteps.Frees.{FreesAgree}
+use Rattle.ec_lawful.specs.OfClerkSteps.Trying.{IsTrying}
+use Rattle.ec_lawful.specs.OfClerkSteps.Zeros.{HasNoZero, ZerosAgree}
+use Rattle.ec_lawful.proofs.OfClerkSteps.ZerosBehind.{steps-keep}
+use Rattle.ec_lawful.proofs.OfClerkSteps.FreesStored.{stills-keep}
 use Rattle.ec_lawful.specs.BeginLaws.{HasBegun}
 use Rattle.ec_lawful.proofs.Called.{has-begun}
 use Rattle.ec_lawful.proofs.Beginning.{begins}
@@ -35,8 +35,8 @@ use Rattle.ec_quiet.specs.Scenes.{Scene}
 use Rattle.ec_quiet.specs.Works.{Work}
 use Rattle.ec_quiet.specs.Goes.{MayGo}
 use Rattle.ec_quiet.proofs.Taking.{each-map}
-use Rattle.ec_agreed_lines.specs.Worlds.{IsSeen}
-use Rattle.ec_agreed_lines.proofs.Seen.{scenes-seen}
+use Rattle.ec_complete.specs.OfAgreedLines.Worlds.{IsSeen}
+use Rattle.ec_complete.proofs.OfAgreedLines.Seen.{scenes-seen}
 use Rattle.ec_complete.specs.WaitingCalls.{HasCall, IsAgreed, kept_volume}
 use Rattle.ec_complete.proofs.About.{lines-about}
 use Rattle.ec_complete.proofs.Shown.{agreed-may-go}
@@ -44,7 +44,7 @@ use Rattle.ec_complete.specs.Lines.{next_given, next_object}
 use Rattle.ec_complete.proofs.Taking.{runs-in}
 use Rattle.ec_complete.specs.LineCalls.{IsCalled}
 use Rattle.ec_base.proofs.Numbers.{same-self as same}
-use Rattle.ec_deliveries.proofs.Holding.{same-slot}
+use Rattle.ec_quiet.proofs.OfDeliveries.Holding.{same-slot}
 use Rattle.ec_base.proofs.Lists.{no-more}
 use Rattle.ec_lawful.proofs.StepsLemmas.{new-in}
 use Rattle.ec_quiet.proofs.Once.{found-once}

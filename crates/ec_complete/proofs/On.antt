@@ -16,7 +16,7 @@ use Rattle.ec_protocol.specs.declared.world.World.{World}
 use Rattle.ec_coherence.specs.Steps.{Stands}
 use Rattle.ec_coherence.specs.System.{System}
 use Rattle.ec_coherence.proofs.Tables.{same_some}
-use Rattle.ec_clerk_steps.specs.Moves.{IsStill}
+use Rattle.ec_lawful.specs.OfClerkSteps.Moves.{IsStill}
 use Rattle.ec_lawful.specs.Steps as steps
 use Rattle.ec_lawful.specs.Steps.{IsNewIn}
 use Rattle.ec_lawful.proofs.Events.{event-holds}

@@ -12,7 +12,7 @@ use Rattle.ec_history.specs.History.{Each}
 use Rattle.ec_history.specs.Placing.{EachLine}
 use Rattle.ec_sessions.specs.Slots.{Slots, ended, slot_at, with_slot}
 use Rattle.ec_sessions.specs.declared.slot.Slot.{Slot}
-use Rattle.ec_tokens.specs.Laws.{sound_none}
+use Rattle.ec_sessions.specs.OfTokens.Laws.{sound_none}
 use Rattle.ec_durable.specs.Durable.{formatted, is_session, slot, step}
 use Rattle.ec_durable.specs.WellFormed.{IsInOrder, WellFormed}
 use Rattle.ec_durable.specs.declared.record.Record.TheVariants.{End, Epoch}
@@ -36,7 +36,7 @@ use Rattle.ec_lawful.specs.Runs.{OfRun}
 use Rattle.ec_lawful.proofs.EndedSlots.{length-ended, was}
 use Rattle.ec_lawful.proofs.Opens.{world-stands, at-middle, set-middle}
 use Rattle.ec_lawful.proofs.OpensWhole.{opened-whole}
-use Rattle.ec_deliveries.proofs.Ordering.{AreApart, at-all, own-from}
+use Rattle.ec_quiet.proofs.OfDeliveries.Ordering.{AreApart, at-all, own-from}
 use Rattle.ec_quiet.specs.Facts.{IsOrderly}
 use Rattle.ec_quiet.specs.Measure.{sum}
 use Rattle.ec_quiet.specs.Quiet.{IsIdle}

@@ -18,17 +18,17 @@ use Rattle.ec_protocol.specs.declared.clerk.Wanted.{Wanted}
 use Rattle.ec_protocol.specs.declared.world.World.{World}
 use Rattle.ec_coherence.specs.System.{System}
 use Rattle.ec_coherence.proofs.Tables.{differ, same_some}
-use Rattle.ec_clerk_steps.specs.Moves.{IsStill}
-use Rattle.ec_clerk_steps.proofs.Stilling.{are-still}
+use Rattle.ec_lawful.specs.OfClerkSteps.Moves.{IsStill}
+use Rattle.ec_lawful.proofs.OfClerkSteps.Stilling.{are-still}
 use Rattle.ec_lawful.specs.Taking.{AnswersNone}
 use Rattle.ec_quiet.specs.Facts.{WantIsAnswered}
 use Rattle.ec_quiet.specs.Phases.{Phase, Greets, Opens, Claims, Wants, Recalls, Flushes, Keeps, Grants, Asks, Gives, Refuses, Saves, Saved, Ends, InPhase, IsStarting, main, messages, recall_of}
-use Rattle.ec_recall.specs.Due.{recall_to}
+use Rattle.ec_sessions.specs.OfRecall.Due.{recall_to}
 use Rattle.ec_quiet.specs.Facts.{session_clerk}
 use Rattle.ec_quiet.specs.Scenes.{IsScene, Mail, Scene, is_for_server}
 use Rattle.ec_quiet.specs.Works.{Calls, HasTask, Pushes, Task, Work, is_saving}
-use Rattle.ec_deliveries.proofs.Working.{main-front}
-use Rattle.ec_deliveries.proofs.ServerDelivered.{head-same, none-first}
+use Rattle.ec_quiet.proofs.OfDeliveries.Working.{main-front}
+use Rattle.ec_quiet.proofs.OfDeliveries.ServerDelivered.{head-same, none-first}
 use Rattle.ec_quiet.proofs.Begun as begun
 use Rattle.ec_complete.specs.Lines.{IsOnLine, IsSpare, next_given}
 use Rattle.ec_complete.proofs.Taking.{first-given, for-clerk, unanswered}

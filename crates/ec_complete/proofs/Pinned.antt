@@ -9,7 +9,7 @@ use Rattle.ec_volume.specs.Image.{is_gone}
 use Rattle.ec_volume.specs.Update.{distinct, has_operand, listed, member, operands}
 use Rattle.ec_volume.specs.Volume.{images}
 use Rattle.ec_volume.specs.declared.update.Update.{Update}
-use Rattle.ec_chains.specs.Held.{is_behind}
+use Rattle.ec_log.specs.OfChains.Held.{is_behind}
 use Rattle.ec_order.specs.Order.{Holds, Issued}
 use Rattle.ec_history.specs.History.{Each, Op, updates}
 use Rattle.ec_sessions.specs.Slots.{Slots, all_unspent, slot_at, unspent_of}
@@ -30,7 +30,7 @@ use Rattle.ec_coherence.proofs.Ids.{in-back, in-either, in-front}
 use Rattle.ec_coherence.proofs.Lists.{each-at, each-fewer, filter-no, filter-yes}
 use Rattle.ec_coherence.proofs.OpenSlots.{owner-slot}
 use Rattle.ec_machine_laws.proofs.Holding.{holds-front}
-use Rattle.ec_clerk_steps.proofs.Unmade.{IsMadeIn, Leaves, unmade}
+use Rattle.ec_lawful.proofs.OfClerkSteps.Unmade.{IsMadeIn, Leaves, unmade}
 use Rattle.ec_base.proofs.Bools.{left as and_first, not-both as no_both, and-both as and_both, right as and_next, is-true, holds-true as holds}
 use Rattle.ec_base.proofs.Options.{none_some}
 

@@ -37,7 +37,7 @@ use Rattle.ec_quiet.proofs.Delivering as delivering
 use Rattle.ec_quiet.specs.Settling.{IsSettled}
 use Rattle.ec_quiet.proofs.Showing as settling
 use Rattle.ec_quiet.proofs.Ending.{ends}
-use Rattle.ec_deliveries.specs.Runs.{AllRun, HasSettled}
+use Rattle.ec_quiet.specs.OfDeliveries.Runs.{AllRun, HasSettled}
 use Rattle.ec_machine_laws.specs.Answers.{Asking, asked_from, asking_in, none_yet}
 use Rattle.ec_machine_laws.specs.PlainLines.{asked_in}
 use Rattle.ec_complete.specs.Begins.{most_sent}
@@ -64,8 +64,8 @@ use Rattle.ec_complete.proofs.Issued.{has-issued, v}
 use Rattle.ec_complete.proofs.Named.{names-few}
 use Rattle.ec_complete.proofs.NobodyRuns.{none-run, opens}
 use Rattle.ec_base.proofs.Lists.{regroup, no-more}
-use Rattle.ec_agreed_lines.proofs.Showing.{asked-both}
-use Rattle.ec_chains.proofs.Chained.{member-left as in-front}
+use Rattle.ec_complete.proofs.OfAgreedLines.Showing.{asked-both}
+use Rattle.ec_log.proofs.OfChains.Chained.{member-left as in-front}
 use Rattle.ec_quiet.proofs.Settled.{stops}
 
 -- each number of a list is in it

@@ -30,7 +30,7 @@ use Rattle.ec_quiet.proofs.Delivering.{comes-out, shown-alike, with-clerks}
 use Rattle.ec_complete.specs.WaitingCalls.{max_about}
 use Rattle.ec_complete.specs.Lines.{IsOnLine}
 use Rattle.ec_complete.specs.Worlds.{IsCounted, Outset}
-use Rattle.ec_deliveries.proofs.Begun.{pushes-begin}
+use Rattle.ec_quiet.proofs.OfDeliveries.Begun.{pushes-begin}
 use Rattle.ec_complete.specs.Following.{BeginsBehind, IsUncalled}
 use Rattle.ec_complete.proofs.Following.{same-scene}
 use Rattle.ec_complete.proofs.Works.{pushes-worked}

@@ -32,8 +32,8 @@ use Rattle.ec_quiet.proofs.Delivering.{comes-out, shown-alike, with-clerks}
 use Rattle.ec_quiet.specs.Tries.{push_tried, without_pushes}
 use Rattle.ec_quiet.proofs.Beside.{own-at}
 use Rattle.ec_quiet.proofs.Steps.{few-stay, prepared, push-alone, tries-none}
-use Rattle.ec_agreed_lines.specs.Counting as clerks
-use Rattle.ec_agreed_lines.specs.Counting.{sent_in}
+use Rattle.ec_complete.specs.OfAgreedLines.Counting as clerks
+use Rattle.ec_complete.specs.OfAgreedLines.Counting.{sent_in}
 use Rattle.ec_complete.specs.Lines.{IsOnLine}
 use Rattle.ec_quiet.specs.First.{HasFirst, IsPush}
 use Rattle.ec_quiet.proofs.Stepping.{nothing-fails}

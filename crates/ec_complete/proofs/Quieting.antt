@@ -5,7 +5,7 @@ use Rattle.std.specs.Ordering.{nat_cmp, eq_by_cmp}
 use Rattle.std.specs.Cmp.{unsigned_ties}
 use Rattle.std.proofs.lemmas.Bool.{eq-eqb}
 use Rattle.ec_base.specs.Tables.{Table, at, at_or}
-use Rattle.ec_clerk_steps.specs.Calls.{CallsAgree, has_number}
+use Rattle.ec_lawful.specs.OfClerkSteps.Calls.{CallsAgree, has_number}
 use Rattle.ec_coherence.specs.Sessions.{SessionsAgree}
 use Rattle.ec_coherence.specs.Steps.{Stands, running_clerk}
 use Rattle.ec_coherence.specs.System.{System}

@@ -14,11 +14,11 @@ use Rattle.ec_sessions.specs.Windows.{has}
 use Rattle.ec_sessions.specs.declared.slot.Slot.{Slot}
 use Rattle.ec_sessions.specs.declared.slot.Greeting.{Greeting}
 use Rattle.ec_sessions.specs.declared.slot.Greeting.TheVariants as greeted
-use Rattle.ec_tokens.specs.Tokens.{first_clash, fits_back, token}
-use Rattle.ec_tokens.specs.declared.token.Token.{Token}
-use Rattle.ec_recall.specs.Due.{actions, wants_after}
-use Rattle.ec_recall.specs.declared.want.Action.{Action}
-use Rattle.ec_recall.specs.declared.want.Action.TheVariants as action
+use Rattle.ec_sessions.specs.OfTokens.Tokens.{first_clash, fits_back, token}
+use Rattle.ec_sessions.specs.declared.tokens.token.Token.{Token}
+use Rattle.ec_sessions.specs.OfRecall.Due.{actions, wants_after}
+use Rattle.ec_sessions.specs.declared.recall.want.Action.{Action}
+use Rattle.ec_sessions.specs.declared.recall.want.Action.TheVariants as action
 use Rattle.ec_wire.specs.declared.msg.Msg.{Msg}
 use Rattle.ec_wire.specs.declared.msg.Msg.TheVariants as msg
 use Rattle.ec_durable.specs.Durable.{is_full, step}
@@ -78,7 +78,7 @@ wants c ss x m last t h = go (token t.server.tokens ss x)
     go (Some k) = choose (nat_lt last k.number) (Rattle.ec_protocol.specs.Server.send_grant c ss x k.hold k.number t) (Rattle.ec_protocol.specs.Server.note ss x m t) (tells c (msg.Grant ss (epoch t) x k.number k.hold (Rattle.ec_volume.specs.Volume.images t.server.durable.volume x)) t tt h) h
 
 backs : (ss x n : ℕ) (m : Hold) (t : Serving) → Grants t → Grants (back ss x n m t)
-backs ss x n m t h = choose (fits_back (token t.server.tokens ss x) n m) (with_server (λ s. record s { tokens = Rattle.ec_tokens.specs.Tokens.lowered ss x m n s.tokens }) t) t h h
+backs ss x n m t h = choose (fits_back (token t.server.tokens ss x) n m) (with_server (λ s. record s { tokens = Rattle.ec_sessions.specs.OfTokens.Tokens.lowered ss x m n s.tokens }) t) t h h
 
 flushes : (c ss b : ℕ) (ops : List (ℕ × Update)) (sl : Slot) (t : Serving) → Grants t → Grants (flush c ss b ops sl t)
 flushes c ss b ops sl t h =
@@ -130,7 +130,7 @@ claims c ss list sl t h =
     (choose (is_none (first_clash t.server.tokens ss list)) claimed (finish c sl t) h (finishes c sl t h))
   where
     claimed : Serving
-    claimed = with_server (λ s. record s { tokens = Rattle.ec_tokens.specs.Tokens.claimed ss list s.tokens; claimed = ss ∷ s.claimed }) t
+    claimed = with_server (λ s. record s { tokens = Rattle.ec_sessions.specs.OfTokens.Tokens.claimed ss list s.tokens; claimed = ss ∷ s.claimed }) t
 
 -- Messages.
 
@@ -185,7 +185,7 @@ takes c (msg.OldBoot asked greatest) t w h = h
 grants-one : (ss x : ℕ) (m : Hold) (t : Serving) → Grants t → Grants (grant ss x m t)
 grants-one ss x m t h =
     let u : Serving = next_number t in
-    tells (Rattle.ec_protocol.specs.Server.clerk_of ss u) (msg.Grant ss (epoch u) x u.server.number m (Rattle.ec_volume.specs.Volume.images u.server.durable.volume x)) (with_server (λ s. record s { tokens = Rattle.ec_tokens.specs.Tokens.granted ss x m u.server.number s.tokens }) u) tt (numbers t h)
+    tells (Rattle.ec_protocol.specs.Server.clerk_of ss u) (msg.Grant ss (epoch u) x u.server.number m (Rattle.ec_volume.specs.Volume.images u.server.durable.volume x)) (with_server (λ s. record s { tokens = Rattle.ec_sessions.specs.OfTokens.Tokens.granted ss x m u.server.number s.tokens }) u) tt (numbers t h)
 
 acts : (a : Action) (t : Serving) → Grants t → Grants (act a t)
 acts (action.Grant ss x m) t h = grants-one ss x m t h

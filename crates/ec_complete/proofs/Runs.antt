@@ -24,8 +24,8 @@ use Rattle.ec_lawful.specs.Runs.{RunShows}
 use Rattle.ec_lawful.proofs.Shows.{runs-show}
 use Rattle.ec_lawful.proofs.Worlds.{kept-by, no-calls, no-lines, opened-holds}
 use Rattle.ec_quiet.proofs.Ending.{ends}
-use Rattle.ec_deliveries.specs.Runs.{AllRun, HasSettled}
-use Rattle.ec_deliveries.proofs.Running.{comes}
+use Rattle.ec_quiet.specs.OfDeliveries.Runs.{AllRun, HasSettled}
+use Rattle.ec_quiet.proofs.OfDeliveries.Running.{comes}
 use Rattle.ec_quiet.specs.Quiet.{IsIdle}
 use Rattle.ec_quiet.specs.Scenes.{IsScene, Scene}
 use Rattle.ec_quiet.specs.Settling.{IsSettled}

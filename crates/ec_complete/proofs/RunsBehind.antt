@@ -16,8 +16,8 @@ use Rattle.ec_lawful.specs.Headline.{placed_on}
 use Rattle.ec_lawful.specs.Drills.{lines_in}
 use Rattle.ec_lawful.specs.DrillRuns.{AreFit}
 use Rattle.ec_quiet.proofs.Ending as ending
-use Rattle.ec_deliveries.specs.Runs.{AllRun, HasEnded, HasSettled}
-use Rattle.ec_deliveries.proofs.Running.{settles-alike, first-runs, later-run}
+use Rattle.ec_quiet.specs.OfDeliveries.Runs.{AllRun, HasEnded, HasSettled}
+use Rattle.ec_quiet.proofs.OfDeliveries.Running.{settles-alike, first-runs, later-run}
 use Rattle.ec_complete.specs.Begins.{bound_for, most_sent}
 use Rattle.ec_complete.specs.Complete.{IsFaultless, IsFaultlessRead}
 use Rattle.ec_complete.specs.Goes.{LineGoesOn, LinesGoOn}

@@ -9,7 +9,7 @@ use Rattle.ec_sessions.specs.declared.slot.Slot.{Slot}
 use Rattle.ec_wire.specs.declared.msg.Msg.TheVariants as msg
 use Rattle.ec_durable.specs.Durable.{slot}
 use Rattle.ec_durable.specs.WellFormed.{IsInOrder}
-use Rattle.ec_resolve.specs.Agreement.{Shows}
+use Rattle.ec_cache.specs.OfResolve.Agreement.{Shows}
 use Rattle.ec_protocol.specs.Clerk.{Doing, doing, first_id}
 use Rattle.ec_protocol.specs.declared.clerk.Clerk.{Clerk}
 use Rattle.ec_protocol.specs.declared.script.Line.{Line}
@@ -24,7 +24,7 @@ use Rattle.ec_coherence.specs.Answers.{IsLive, seen_by}
 use Rattle.ec_coherence.specs.Answers as answers
 use Rattle.ec_coherence.proofs.Answering.{fresh-gone}
 use Rattle.ec_coherence.proofs.Judged.{shows-all}
-use Rattle.ec_clerk_steps.proofs.Live as live
+use Rattle.ec_lawful.proofs.OfClerkSteps.Live as live
 use Rattle.ec_lawful.specs.SettleLaws.{IsLined}
 use Rattle.ec_lawful.proofs.Plain.{takes-grant-so, takes-kept-so}
 use Rattle.ec_quiet.specs.Facts.{IsIn}
@@ -33,14 +33,14 @@ use Rattle.ec_quiet.specs.Scenes.{IsScene, Scene}
 use Rattle.ec_quiet.specs.Works.{HasTask, Work}
 use Rattle.ec_quiet.specs.Takings.{taking}
 use Rattle.ec_quiet.proofs.Begun as begun
-use Rattle.ec_deliveries.specs.Deliveries.{having_kept}
-use Rattle.ec_agreed_lines.specs.Worlds.{IsSeen}
-use Rattle.ec_agreed_lines.proofs.Seen.{scenes-seen}
+use Rattle.ec_quiet.specs.OfDeliveries.Deliveries.{having_kept}
+use Rattle.ec_complete.specs.OfAgreedLines.Worlds.{IsSeen}
+use Rattle.ec_complete.proofs.OfAgreedLines.Seen.{scenes-seen}
 use Rattle.ec_complete.specs.WaitingCalls.{IsAgreed, kept_volume}
 use Rattle.ec_complete.specs.Lines.{IsOnLine}
 use Rattle.ec_complete.proofs.Taking.{agreed-midst, runs-in}
-use Rattle.ec_deliveries.specs.PhasesBehind.{MaySee, Sees}
-use Rattle.ec_deliveries.proofs.Seen.{shown-seen}
+use Rattle.ec_quiet.specs.OfDeliveries.PhasesBehind.{MaySee, Sees}
+use Rattle.ec_quiet.proofs.OfDeliveries.Seen.{shown-seen}
 use Rattle.ec_complete.specs.Following.{IsWorked}
 use Rattle.ec_complete.proofs.Sent.{messages-sent}
 use Rattle.ec_complete.proofs.Works.{at-work}

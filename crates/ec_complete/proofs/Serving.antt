@@ -27,17 +27,17 @@ use Rattle.ec_coherence.proofs.Needs.{each-of}
 use Rattle.ec_coherence.proofs.OpenSlots.{at-open}
 use Rattle.ec_coherence.proofs.Tables.{differ, same_some}
 use Rattle.ec_coherence.specs.CommitLaws as commits
-use Rattle.ec_clerk_steps.proofs.Steps.{batch-field, ids-are, ids-open, open-is}
+use Rattle.ec_lawful.proofs.OfClerkSteps.Steps.{batch-field, ids-are, ids-open, open-is}
 use Rattle.ec_coherence.specs.Makes.{IsMade, Makes}
 use Rattle.ec_coherence.proofs.TakesMaking.{takes-any}
 use Rattle.ec_machine_laws.proofs.Taken.{batches-flushed}
 use Rattle.ec_quiet.specs.Phases.{Phase, Greets, Opens, Claims, Wants, Recalls, Flushes, Keeps, Grants, Asks, Gives, Refuses, Saves, Saved, Ends, InPhase, backs, is_back, main, messages}
 use Rattle.ec_quiet.specs.Scenes.{IsScene, Mail, Scene, is_for_server, served}
 use Rattle.ec_quiet.specs.Works.{Work}
-use Rattle.ec_deliveries.proofs.Working.{main-front}
-use Rattle.ec_deliveries.proofs.ServerDelivered.{head-same}
-use Rattle.ec_agreed_lines.specs.Worlds.{IsSeen}
-use Rattle.ec_agreed_lines.proofs.Seen.{clerk-there, scenes-seen}
+use Rattle.ec_quiet.proofs.OfDeliveries.Working.{main-front}
+use Rattle.ec_quiet.proofs.OfDeliveries.ServerDelivered.{head-same}
+use Rattle.ec_complete.specs.OfAgreedLines.Worlds.{IsSeen}
+use Rattle.ec_complete.proofs.OfAgreedLines.Seen.{clerk-there, scenes-seen}
 use Rattle.ec_complete.specs.Lines.{IsOnLine, next_given, next_object}
 use Rattle.ec_complete.proofs.Taking.{next-sent}
 use Rattle.ec_complete.proofs.Standing.{InSlot, in-slot, other, own}

@@ -24,7 +24,7 @@ use Rattle.ec_quiet.specs.SettlingScenes.{here}
 use Rattle.ec_quiet.specs.Settling.{IsSettled}
 use Rattle.ec_quiet.specs.SettlingCounts.{Counts}
 use Rattle.ec_quiet.proofs.Mail.{few, pending-is}
-use Rattle.ec_deliveries.specs.Runs.{HasEnded, HasSettled}
+use Rattle.ec_quiet.specs.OfDeliveries.Runs.{HasEnded, HasSettled}
 use Rattle.ec_complete.specs.Begins.{IsBegun, bound_for, most_sent}
 use Rattle.ec_complete.specs.Complete.{IsFaultless}
 use Rattle.ec_complete.specs.Worlds.{IsEarly, LineIsKnown, Outset}

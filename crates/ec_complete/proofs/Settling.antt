@@ -13,15 +13,15 @@ use Rattle.ec_quiet.proofs.Delivering as delivering
 use Rattle.ec_quiet.proofs.Settled.{behind, onward-is}
 use Rattle.ec_quiet.specs.SettlingScenes.{Reaches, here, on}
 use Rattle.ec_machine_laws.specs.Counts.{DeliveriesCount}
-use Rattle.ec_agreed_lines.specs.Counting.{DeliveriesCountClerks}
+use Rattle.ec_complete.specs.OfAgreedLines.Counting.{DeliveriesCountClerks}
 use Rattle.ec_complete.specs.Lines.{CanTakeNext, IsOnLine, IsSpare}
 use Rattle.ec_complete.specs.Staying.{LinesStayOn}
 use Rattle.ec_complete.specs.Spare.{CountersAreSpare, IdsStayGiven, NextIsSpare, max_calls}
-use Rattle.ec_deliveries.specs.Coming.{HasNext}
-use Rattle.ec_deliveries.specs.Leading.{CanTake}
-use Rattle.ec_deliveries.proofs.Led.{deliveries-lead-on}
-use Rattle.ec_deliveries.proofs.Spending.{deliveries-have-next}
-use Rattle.ec_deliveries.specs.Runs.{CanGoOn, CanSettle}
+use Rattle.ec_quiet.specs.OfDeliveries.Coming.{HasNext}
+use Rattle.ec_quiet.specs.OfDeliveries.Leading.{CanTake}
+use Rattle.ec_quiet.proofs.OfDeliveries.Led.{deliveries-lead-on}
+use Rattle.ec_quiet.proofs.OfDeliveries.Spending.{deliveries-have-next}
+use Rattle.ec_quiet.specs.OfDeliveries.Runs.{CanGoOn, CanSettle}
 use Rattle.ec_complete.specs.Begins.{most_sent}
 use Rattle.ec_complete.specs.Worlds.{IsCounted, IsEarly, LineIsKnown, LinesCanGoOn, LinesCanSettle, LinesStayKnown, Outset}
 use Rattle.ec_complete.proofs.Spare as spares

@@ -8,7 +8,7 @@ use Rattle.ec_volume.specs.declared.image.Image.{Image}
 use Rattle.ec_volume.specs.declared.image.Image.TheVariants.{Gone}
 use Rattle.ec_history.specs.History.{Each, updates}
 use Rattle.ec_plain.specs.BoundedCalls.{is_bounded}
-use Rattle.ec_resolve.specs.Agreement.{Shows}
+use Rattle.ec_cache.specs.OfResolve.Agreement.{Shows}
 use Rattle.ec_protocol.specs.Clerk.{first_id}
 use Rattle.ec_protocol.specs.declared.clerk.Clerk.{Clerk}
 use Rattle.ec_protocol.specs.declared.clerk.Waiting.{Waiting}
@@ -17,17 +17,17 @@ use Rattle.ec_coherence.specs.ChangeLaws.{IsInIt}
 use Rattle.ec_coherence.specs.Invariant.{Invariant}
 use Rattle.ec_coherence.specs.Steps.{call_of}
 use Rattle.ec_coherence.proofs.Formed.{volume-formed}
-use Rattle.ec_clerk_steps.specs.Calls.{Began}
+use Rattle.ec_lawful.specs.OfClerkSteps.Calls.{Began}
 use Rattle.ec_coherence.specs.Answers.{IsLive, Sees, seen_by}
 use Rattle.ec_coherence.proofs.Answering.{fresh-gone}
 use Rattle.ec_coherence.proofs.Judged.{shows-all}
-use Rattle.ec_clerk_steps.proofs.Live as live
-use Rattle.ec_clerk_steps.proofs.Storing.{same-image}
+use Rattle.ec_lawful.proofs.OfClerkSteps.Live as live
+use Rattle.ec_lawful.proofs.OfClerkSteps.Storing.{same-image}
 use Rattle.ec_machine_laws.proofs.Once.{fewer}
 use Rattle.ec_quiet.specs.Works.{Work}
 use Rattle.ec_quiet.specs.Goes.{MayGo}
-use Rattle.ec_agreed_lines.specs.Shown.{IsCalling, IsShown, next_id}
-use Rattle.ec_agreed_lines.proofs.CallsGo.{may-go}
+use Rattle.ec_complete.specs.OfAgreedLines.Shown.{IsCalling, IsShown, next_id}
+use Rattle.ec_complete.proofs.OfAgreedLines.CallsGo.{may-go}
 use Rattle.ec_complete.specs.WaitingCalls.{HasCall, IsAgreed, kept_volume}
 use Rattle.ec_complete.proofs.Pinned.{ids-stored, log-behind, once-each, pinned-stored, stored-few, stored_ids}
 

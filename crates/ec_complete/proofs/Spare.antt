@@ -5,9 +5,9 @@ use Rattle.ec_base.specs.Tables.{at}
 use Rattle.ec_protocol.specs.declared.clerk.Clerk.{Clerk}
 use Rattle.ec_protocol.specs.declared.world.World.{World}
 use Rattle.ec_quiet.specs.Scenes.{IsScene, Scene}
-use Rattle.ec_agreed_lines.specs.Counting as clerks
+use Rattle.ec_complete.specs.OfAgreedLines.Counting as clerks
 use Rattle.ec_complete.specs.Spare.{IsBelow, IsFarBelow, max_calls}
-use Rattle.ec_deliveries.specs.Runs.{IsFar}
+use Rattle.ec_quiet.specs.OfDeliveries.Runs.{IsFar}
 use Rattle.ec_complete.specs.Begins.{most_sent}
 use Rattle.ec_complete.specs.Worlds.{IsCounted, IsEarly, Outset}
 

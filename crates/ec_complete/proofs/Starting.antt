@@ -15,8 +15,8 @@ use Rattle.ec_sessions.specs.declared.slot.Slot.{Slot}
 use Rattle.ec_durable.specs.Durable.{slot}
 use Rattle.ec_cache.specs.Cache.{empty}
 use Rattle.ec_log.specs.Log as log
-use Rattle.ec_resolve.specs.Agreement.{Shows}
-use Rattle.ec_resolve.specs.declared.verdict.Verdict.TheVariants.{Need}
+use Rattle.ec_cache.specs.OfResolve.Agreement.{Shows}
+use Rattle.ec_cache.specs.declared.resolve.verdict.Verdict.TheVariants.{Need}
 use Rattle.ec_protocol.specs.Clerk.{Doing, add_call, begin, doing, hello, max_tokens, new_clerk, spend, start, verdict}
 use Rattle.ec_protocol.specs.World.{Moving, boot, call, call_on, fails, start_and_call}
 use Rattle.ec_protocol.specs.declared.clerk.Clerk.{Clerk}
@@ -35,8 +35,8 @@ use Rattle.ec_quiet.specs.Scenes.{IsScene, Scene, done_by}
 use Rattle.ec_quiet.specs.Works.{Calls, Work, is_saving}
 use Rattle.ec_quiet.specs.Bounds.{IsFirstPhase}
 use Rattle.ec_quiet.proofs.Beside.{other-at, own-at}
-use Rattle.ec_agreed_lines.specs.Counting as clerks
-use Rattle.ec_agreed_lines.specs.Counting.{sent_in}
+use Rattle.ec_complete.specs.OfAgreedLines.Counting as clerks
+use Rattle.ec_complete.specs.OfAgreedLines.Counting.{sent_in}
 use Rattle.ec_complete.specs.WaitingCalls.{kept_volume, touched_by}
 use Rattle.ec_complete.specs.Lines.{IsOnLine}
 use Rattle.ec_complete.specs.LineCalls.{IsCalledFirst}

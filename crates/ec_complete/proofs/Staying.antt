@@ -18,8 +18,8 @@ use Rattle.ec_quiet.proofs.Beside.{other-at, own-at}
 use Rattle.ec_complete.specs.WaitingCalls.{kept_volume}
 use Rattle.ec_complete.specs.Staying.{LeavesKept}
 use Rattle.ec_complete.proofs.Owning.{empties}
-use Rattle.ec_deliveries.specs.PhasesBehind.{saved}
-use Rattle.ec_deliveries.specs.ScriptWorks.{IsWorkOn}
+use Rattle.ec_quiet.specs.OfDeliveries.PhasesBehind.{saved}
+use Rattle.ec_quiet.specs.OfDeliveries.ScriptWorks.{IsWorkOn}
 use Rattle.ec_complete.specs.Following.{IsAtWork, IsWorked}
 use Rattle.ec_base.proofs.Options.{none_some}
 use Rattle.ec_base.proofs.Numbers.{equal}

@@ -14,8 +14,8 @@ use Rattle.ec_log.specs.declared.state.Asked.{Asked}
 use Rattle.ec_log.specs.declared.state.Asked.TheVariants.{All, Op}
 use Rattle.ec_log.specs.declared.state.Pick.{Pick}
 use Rattle.ec_log.specs.declared.state.Pick.TheVariants as pick_of
-use Rattle.ec_resolve.specs.declared.verdict.Verdict.{Verdict}
-use Rattle.ec_resolve.specs.declared.verdict.Verdict.TheVariants.{Need, Lost, NeedIds, Done}
+use Rattle.ec_cache.specs.declared.resolve.verdict.Verdict.{Verdict}
+use Rattle.ec_cache.specs.declared.resolve.verdict.Verdict.TheVariants.{Need, Lost, NeedIds, Done}
 use Rattle.ec_sessions.specs.declared.window.Window.{Window}
 use Rattle.ec_cache.specs.declared.state.Held.{Held}
 use Rattle.ec_cache.specs.Cache as cache
@@ -26,18 +26,18 @@ use Rattle.ec_protocol.specs.declared.clerk.Waiting.{Waiting}
 use Rattle.ec_coherence.specs.System.{System, Ghost}
 use Rattle.ec_coherence.specs.Steps.{doing_in, out_lines, sends}
 use Rattle.ec_coherence.proofs.Lists.{each-more}
-use Rattle.ec_clerk_steps.specs.CallLaws.{IsStillIf, prepared}
-use Rattle.ec_clerk_steps.proofs.Quiet.{quiet-lines}
-use Rattle.ec_clerk_steps.proofs.Quiets.{quiet-evict, quiet-prepared, quiet-taken}
-use Rattle.ec_clerk_steps.proofs.Resting.{settles-rest, tries-rest}
-use Rattle.ec_clerk_steps.proofs.Still.{tries-answer}
-use Rattle.ec_clerk_steps.proofs.Spent.{spent-stays}
-use Rattle.ec_clerk_steps.specs.Moves.{IsStill}
-use Rattle.ec_clerk_steps.proofs.Stilling.{are-still}
-use Rattle.ec_clerk_steps.specs.Fulls.{IsFullAt}
-use Rattle.ec_clerk_steps.proofs.Sent.{own-full, take-own}
-use Rattle.ec_clerk_steps.specs.Frees.{FullsAgree}
-use Rattle.ec_clerk_steps.specs.JoinLaws.{ghosts_joined}
+use Rattle.ec_lawful.specs.OfClerkSteps.CallLaws.{IsStillIf, prepared}
+use Rattle.ec_lawful.proofs.OfClerkSteps.Quiet.{quiet-lines}
+use Rattle.ec_lawful.proofs.OfClerkSteps.Quiets.{quiet-evict, quiet-prepared, quiet-taken}
+use Rattle.ec_lawful.proofs.OfClerkSteps.Resting.{settles-rest, tries-rest}
+use Rattle.ec_lawful.proofs.OfClerkSteps.Still.{tries-answer}
+use Rattle.ec_lawful.proofs.OfClerkSteps.Spent.{spent-stays}
+use Rattle.ec_lawful.specs.OfClerkSteps.Moves.{IsStill}
+use Rattle.ec_lawful.proofs.OfClerkSteps.Stilling.{are-still}
+use Rattle.ec_lawful.specs.OfClerkSteps.Fulls.{IsFullAt}
+use Rattle.ec_lawful.proofs.OfClerkSteps.Sent.{own-full, take-own}
+use Rattle.ec_lawful.specs.OfClerkSteps.Frees.{FullsAgree}
+use Rattle.ec_lawful.specs.OfClerkSteps.JoinLaws.{ghosts_joined}
 use Rattle.ec_lawful.specs.Whole.{Whole}
 use Rattle.ec_lawful.specs.SettleLaws.{IsLined}
 use Rattle.ec_lawful.proofs.Beginning.{begins}
@@ -109,7 +109,7 @@ joined-kept c (msg.Opened age s e) d γ = go (not (has_session d.clerk) && Rattl
     go false = refl
 joined-kept c (msg.Ended s low mask) d γ = go (is_session s d.clerk.session)
   where
-    go : (b : Bool) → (elim b as (λ z. Ghost) [ true ↦ Rattle.ec_clerk_steps.specs.JoinLaws.tell_loss c (Rattle.ec_base.specs.Tables.keys (log.lost (record { low = low; mask = mask }) d.clerk.log)) γ | false ↦ γ ]).kept ≡ γ.kept
+    go : (b : Bool) → (elim b as (λ z. Ghost) [ true ↦ Rattle.ec_lawful.specs.OfClerkSteps.JoinLaws.tell_loss c (Rattle.ec_base.specs.Tables.keys (log.lost (record { low = low; mask = mask }) d.clerk.log)) γ | false ↦ γ ]).kept ≡ γ.kept
     go true = refl
     go false = refl
 joined-kept c (msg.Grant s e x n h i) d γ = refl

@@ -15,7 +15,7 @@ use Rattle.ec_plain.specs.declared.call.Outcome.{Outcome}
 use Rattle.ec_history.specs.History.{Each}
 use Rattle.ec_history.specs.declared.entry.Answer.{Answer}
 use Rattle.ec_history.specs.declared.entry.Answer.TheVariants as answer
-use Rattle.ec_report.specs.Report.{clear}
+use Rattle.ec_cache.specs.OfReport.Report.{clear}
 use Rattle.ec_sessions.specs.Limits.{ids_per_grant, last_grants, last_round}
 use Rattle.ec_sessions.specs.Slots.{run}
 use Rattle.ec_sessions.specs.declared.window.Window.{Window}
@@ -28,8 +28,8 @@ use Rattle.ec_log.specs.declared.state.Asked.{Asked}
 use Rattle.ec_log.specs.declared.state.Asked.TheVariants.{All, Object, Op}
 use Rattle.ec_log.specs.declared.state.Pick.{Pick}
 use Rattle.ec_log.specs.declared.state.Pick.TheVariants as pick_of
-use Rattle.ec_resolve.specs.declared.verdict.Verdict.{Verdict}
-use Rattle.ec_resolve.specs.declared.verdict.Verdict.TheVariants.{Need, Lost, NeedIds, Done}
+use Rattle.ec_cache.specs.declared.resolve.verdict.Verdict.{Verdict}
+use Rattle.ec_cache.specs.declared.resolve.verdict.Verdict.TheVariants.{Need, Lost, NeedIds, Done}
 use Rattle.ec_protocol.specs.Clerk.{Answered, Doing, Tried, Waits, add_call, add_ids, answer_recalls, answer_with, ask_anew, ask_for, ask_pushes, ask_room, await, awaited, begin, claim, doing, emit, enter_epoch, epoch, evict, evict_unpinned, give_back, has_session, hello, in_session, is_need, is_owing, is_ready, is_session, is_settled, is_wanted, issue_if_room, keep_push, keep_recall, left_of, less_id, lose, lower_held, mark_recall, may_want, needs, new_clerk, on_objects, or_hello, push, resend_batches, resend_needs, resend_room, same_age, send, send_backs, send_batch, send_outstanding, send_picked, send_room, send_want, session, settle, settle_outcome, spend, start, suits, take, take_ended, take_ids, take_opened, take_recall, take_restarted, taken, try, try_pushes, try_recalls, try_verdict, verdict, want, wanted, with_cache, with_clerk, with_log, with_update}
 use Rattle.ec_protocol.specs.declared.clerk.Clerk.{Clerk}
 use Rattle.ec_protocol.specs.declared.clerk.Out.{Out}

@@ -5,7 +5,7 @@ use Rattle.ec_base.specs.Tables.{at}
 use Rattle.ec_base.specs.declared.ids.Hold.{Hold}
 use Rattle.ec_order.specs.Order.{Issued}
 use Rattle.ec_sessions.specs.Limits.{last_first_id, last_grants}
-use Rattle.ec_tokens.specs.Tokens.{Holder}
+use Rattle.ec_sessions.specs.OfTokens.Tokens.{Holder}
 use Rattle.ec_wire.specs.declared.msg.Msg.{Msg}
 use Rattle.ec_wire.specs.declared.msg.Msg.TheVariants as msg
 use Rattle.ec_durable.specs.Durable.{is_full}
@@ -16,12 +16,12 @@ use Rattle.ec_quiet.specs.Facts.{session_clerk}
 use Rattle.ec_quiet.specs.Phases.{Phase, Greets, Opens, Claims, Wants, Recalls, Flushes, Keeps, Grants, Asks, Gives, Refuses, Saves, Saved, Ends, InPhase, IsAsking, IsRecalled, IsSaving, main, messages, is_back, is_back_message}
 use Rattle.ec_quiet.specs.Scenes.{Mail, Scene}
 use Rattle.ec_quiet.specs.Works.{Work}
-use Rattle.ec_deliveries.proofs.Working.{main-front}
-use Rattle.ec_deliveries.specs.Coming.{HasNext, IsFreshFor, IsTaken, Suits}
-use Rattle.ec_deliveries.proofs.Committed.{batch-new}
-use Rattle.ec_deliveries.proofs.ServerDelivered.{head-same, none-first}
-use Rattle.ec_agreed_lines.specs.Worlds.{IsSeen}
-use Rattle.ec_agreed_lines.proofs.Seen.{at-only, batch-taken, clerk-there, ids-own}
+use Rattle.ec_quiet.proofs.OfDeliveries.Working.{main-front}
+use Rattle.ec_quiet.specs.OfDeliveries.Coming.{HasNext, IsFreshFor, IsTaken, Suits}
+use Rattle.ec_quiet.proofs.OfDeliveries.Committed.{batch-new}
+use Rattle.ec_quiet.proofs.OfDeliveries.ServerDelivered.{head-same, none-first}
+use Rattle.ec_complete.specs.OfAgreedLines.Worlds.{IsSeen}
+use Rattle.ec_complete.proofs.OfAgreedLines.Seen.{at-only, batch-taken, clerk-there, ids-own}
 use Rattle.ec_complete.specs.Lines.{IsSpare}
 
 -- a token on its way back needs nothing

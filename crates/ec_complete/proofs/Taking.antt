@@ -33,7 +33,7 @@ use Rattle.ec_coherence.proofs.ClerkIn.{start-same}
 use Rattle.ec_coherence.proofs.Needs.{each-of}
 use Rattle.ec_coherence.proofs.OpenSlots.{at-open}
 use Rattle.ec_coherence.proofs.Tables.{same_some}
-use Rattle.ec_clerk_steps.specs.Trying.{IsTrying}
+use Rattle.ec_lawful.specs.OfClerkSteps.Trying.{IsTrying}
 use Rattle.ec_lawful.specs.SettleLaws.{IsLined}
 use Rattle.ec_lawful.proofs.Beginning.{begins}
 use Rattle.ec_lawful.specs.Rooms.{unasked}
@@ -44,20 +44,20 @@ use Rattle.ec_quiet.specs.Phases.{Phase, Greets, Opens, Claims, Wants, Recalls, 
 use Rattle.ec_quiet.specs.Scenes.{IsScene, Mail, Scene, is_for_server}
 use Rattle.ec_quiet.specs.Works.{Calls, HasTask, Pushes, Task, Work, is_saving}
 use Rattle.ec_quiet.proofs.Sending.{IsFirst, first-is}
-use Rattle.ec_deliveries.proofs.Working.{main-front}
-use Rattle.ec_deliveries.proofs.ServerDelivered.{head-same}
+use Rattle.ec_quiet.proofs.OfDeliveries.Working.{main-front}
+use Rattle.ec_quiet.proofs.OfDeliveries.ServerDelivered.{head-same}
 use Rattle.ec_quiet.specs.Goes.{MayGo}
 use Rattle.ec_quiet.specs.Takings.{taking}
 use Rattle.ec_quiet.specs.Tries.{HasCounters}
 use Rattle.ec_quiet.proofs.Begun as begun
-use Rattle.ec_deliveries.specs.Deliveries.{MaySave, MayTake, having_kept, unasking}
-use Rattle.ec_deliveries.proofs.Filling.{in-run}
-use Rattle.ec_deliveries.proofs.Saving.{none-left}
-use Rattle.ec_agreed_lines.specs.Worlds.{IsSeen}
-use Rattle.ec_agreed_lines.proofs.Seen.{clerk-there, scenes-seen, tables}
-use Rattle.ec_agreed_lines.proofs.Suited.{numbers-given}
-use Rattle.ec_deliveries.specs.Coming.{HasNext}
-use Rattle.ec_deliveries.specs.Leading.{CanTake}
+use Rattle.ec_quiet.specs.OfDeliveries.Deliveries.{MaySave, MayTake, having_kept, unasking}
+use Rattle.ec_quiet.proofs.OfDeliveries.Filling.{in-run}
+use Rattle.ec_quiet.proofs.OfDeliveries.Saving.{none-left}
+use Rattle.ec_complete.specs.OfAgreedLines.Worlds.{IsSeen}
+use Rattle.ec_complete.proofs.OfAgreedLines.Seen.{clerk-there, scenes-seen, tables}
+use Rattle.ec_complete.proofs.OfAgreedLines.Suited.{numbers-given}
+use Rattle.ec_quiet.specs.OfDeliveries.Coming.{HasNext}
+use Rattle.ec_quiet.specs.OfDeliveries.Leading.{CanTake}
 use Rattle.ec_complete.specs.WaitingCalls.{IsAgreed}
 use Rattle.ec_complete.proofs.Shown.{agreed-may-go}
 use Rattle.ec_complete.specs.Lines.{IsOnLine, IsSpare, next_given}

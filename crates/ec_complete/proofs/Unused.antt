@@ -22,12 +22,12 @@ use Rattle.ec_quiet.specs.Facts.{IsIn, StartIsNew as IsNew}
 use Rattle.ec_quiet.specs.Phases.{InPhase, Phase}
 use Rattle.ec_quiet.specs.Scenes.{IsScene, Scene}
 use Rattle.ec_quiet.specs.Works.{Work}
-use Rattle.ec_agreed_lines.specs.Worlds.{IsSeen}
-use Rattle.ec_agreed_lines.proofs.Seen.{clerk-there, scenes-seen}
+use Rattle.ec_complete.specs.OfAgreedLines.Worlds.{IsSeen}
+use Rattle.ec_complete.proofs.OfAgreedLines.Seen.{clerk-there, scenes-seen}
 use Rattle.ec_complete.specs.Lines.{IsOnLine, next_given, next_object}
 use Rattle.ec_complete.proofs.Taking.{runs-in}
 use Rattle.ec_complete.proofs.Standing.{own}
-use Rattle.ec_deliveries.specs.ScriptWorks.{LeaveOut}
+use Rattle.ec_quiet.specs.OfDeliveries.ScriptWorks.{LeaveOut}
 use Rattle.ec_base.proofs.Numbers.{same-self as same}
 
 -- an id above all of a list is none of it

@@ -13,9 +13,9 @@ use Rattle.ec_quiet.specs.Scenes.{IsScene, Scene}
 use Rattle.ec_quiet.specs.Works.{Calls, HasTask, Pushes, Task, Work}
 use Rattle.ec_complete.specs.WaitingCalls.{kept_volume, touched_by}
 use Rattle.ec_complete.specs.Lines.{IsOnLine, next_object}
-use Rattle.ec_deliveries.specs.PhasesBehind.{saved}
-use Rattle.ec_deliveries.specs.ScriptWorks.{IsWorkOn}
-use Rattle.ec_deliveries.proofs.Worked.{touches-work}
+use Rattle.ec_quiet.specs.OfDeliveries.PhasesBehind.{saved}
+use Rattle.ec_quiet.specs.OfDeliveries.ScriptWorks.{IsWorkOn}
+use Rattle.ec_quiet.proofs.OfDeliveries.Worked.{touches-work}
 use Rattle.ec_complete.specs.Following.{IsAtWork, IsWorked}
 use Rattle.ec_complete.proofs.Unused.{next-unused}
 

@@ -10,7 +10,7 @@ use Rattle.ec_quiet.specs.Scenes.{IsScene, Scene}
 use Rattle.ec_quiet.specs.Works.{Work}
 use Rattle.ec_quiet.specs.Bounds.{other_rows}
 use Rattle.ec_quiet.specs.First.{HasFirst}
-use Rattle.ec_deliveries.specs.Runs.{CanSettle}
+use Rattle.ec_quiet.specs.OfDeliveries.Runs.{CanSettle}
 use Rattle.ec_complete.specs.Complete.{IsFaultlessRead}
 use Rattle.ec_complete.specs.SettledRuns.{EachSettles}
 

@@ -32,9 +32,9 @@ use Rattle.ec_complete.specs.Spare.{max_calls}
 use Rattle.ec_complete.specs.Begins.{most_sent}
 use Rattle.ec_complete.specs.Worlds.{IsCounted, LineIsKnown, Outset}
 use Rattle.ec_lawful.specs.Headline.{placed_on}
-use Rattle.ec_deliveries.specs.PhasesBehind.{IsBehind, MaySee, saved}
-use Rattle.ec_deliveries.specs.ScriptWorks.{IsWorkOn}
-use Rattle.ec_agreed_lines.specs.Placed.{IsFollowed, WritesBehind}
+use Rattle.ec_quiet.specs.OfDeliveries.PhasesBehind.{IsBehind, MaySee, saved}
+use Rattle.ec_quiet.specs.OfDeliveries.ScriptWorks.{IsWorkOn}
+use Rattle.ec_complete.specs.OfAgreedLines.Placed.{IsFollowed, WritesBehind}
 
 -- the clerk's task isn't done yet: its call waits, or an operation is pushed
 abbrev pub IsAtWork : Task → Clerk → Type 0

@@ -23,7 +23,7 @@ use Rattle.ec_quiet.specs.First.{HasFirst, IsPush}
 use Rattle.ec_quiet.specs.Measure.{sum, unsent_by}
 use Rattle.ec_quiet.specs.Quiet.{IsIdle}
 use Rattle.ec_complete.specs.LineCalls.{IsCalled, IsCalledFirst}
-use Rattle.ec_deliveries.specs.Runs.{HasEnded, HasSettled}
+use Rattle.ec_quiet.specs.OfDeliveries.Runs.{HasEnded, HasSettled}
 use Rattle.ec_complete.specs.Begins.{IsBegun, bound_for, most_sent}
 use Rattle.ec_complete.specs.Complete.{IsFaultless}
 use Rattle.ec_complete.specs.Worlds.{IsEarly, LineIsKnown, Outset}

@@ -20,3 +20,4 @@ pub mod Pieces
 pub mod RunsBehind
 pub mod PlainScripts
 pub mod PlainRuns
+pub mod OfAgreedLines

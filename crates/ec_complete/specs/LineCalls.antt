@@ -22,7 +22,7 @@ use Rattle.ec_quiet.specs.Scenes.{IsScene, Scene, done_by}
 use Rattle.ec_quiet.specs.Works.{Calls, Work}
 use Rattle.ec_quiet.specs.Goes.{MayGo}
 use Rattle.ec_quiet.specs.Tries.{HasCounters}
-use Rattle.ec_agreed_lines.specs.Lines.{IsAt}
+use Rattle.ec_complete.specs.OfAgreedLines.Lines.{IsAt}
 use Rattle.ec_complete.specs.WaitingCalls.{kept_volume, touched_by}
 use Rattle.ec_complete.specs.Lines.{IsOnLine, next_object}
 use Rattle.ec_complete.specs.FirstSteps.{IsTold}

@@ -22,8 +22,8 @@ use Rattle.ec_quiet.specs.Phases.{InPhase, Phase}
 use Rattle.ec_quiet.specs.Scenes.{IsScene, Mail, Scene}
 use Rattle.ec_quiet.specs.Works.{Pushes, Work}
 use Rattle.ec_quiet.specs.Tries.{HasCounters}
-use Rattle.ec_deliveries.specs.Coming.{HasNext}
-use Rattle.ec_deliveries.specs.Leading.{CanTake}
+use Rattle.ec_quiet.specs.OfDeliveries.Coming.{HasNext}
+use Rattle.ec_quiet.specs.OfDeliveries.Leading.{CanTake}
 use Rattle.ec_complete.specs.WaitingCalls.{IsAbout, kept_volume, max_about}
 
 -- The first id that the clerk gets next: of those that were given to its session and that it didn't take yet, or of the server's next ones.

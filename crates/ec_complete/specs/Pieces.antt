@@ -3,7 +3,7 @@ use Rattle.std.specs.Prelude.{List, [], ◌∷◌, ◌++◌, ⊤}
 use Rattle.ec_history.specs.History.{Base}
 use Rattle.ec_history.specs.declared.shown.Shown.{Shown}
 use Rattle.ec_lawful.specs.Headline.{Lines, Pieces}
-use Rattle.ec_deliveries.specs.Scripts.{AreWriteBehind}
+use Rattle.ec_quiet.specs.OfDeliveries.Scripts.{AreWriteBehind}
 
 -- Each piece is that of its line, behind the lines of the pieces before it: each operation that a durable line of it names lies in a closure that its line asks for.
 -- No piece is without its line.

@@ -7,7 +7,7 @@ use Rattle.ec_durable.specs.WellFormed.{WellFormed}
 use Rattle.ec_protocol.specs.Drill.{Fates, Read, drill}
 use Rattle.ec_lawful.specs.Drills.{lines_in}
 use Rattle.ec_lawful.specs.DrillRuns.{AreFit}
-use Rattle.ec_deliveries.specs.Runs.{AllRun}
+use Rattle.ec_quiet.specs.OfDeliveries.Runs.{AllRun}
 use Rattle.ec_complete.specs.Complete.{IsComplete}
 use Rattle.ec_complete.specs.PlainScripts.{IsPlainScript}
 

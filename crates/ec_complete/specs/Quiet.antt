@@ -1,6 +1,6 @@
 -- A world that stands in a system is quiet where all is idle, as contracts name it.
 use Rattle.std.specs.Prelude.{◌≡◌, ℕ, None}
-use Rattle.ec_clerk_steps.specs.Calls.{CallsAgree}
+use Rattle.ec_lawful.specs.OfClerkSteps.Calls.{CallsAgree}
 use Rattle.ec_coherence.specs.Sessions.{SessionsAgree}
 use Rattle.ec_coherence.specs.Steps.{Stands}
 use Rattle.ec_coherence.specs.System.{System}

@@ -14,7 +14,7 @@ use Rattle.ec_protocol.specs.declared.world.World.{World}
 use Rattle.ec_lawful.specs.Headline.{Lines, placed_on}
 use Rattle.ec_lawful.specs.Drills.{lines_in}
 use Rattle.ec_lawful.specs.DrillRuns.{AreFit}
-use Rattle.ec_deliveries.specs.Runs.{AllRun}
+use Rattle.ec_quiet.specs.OfDeliveries.Runs.{AllRun}
 use Rattle.ec_complete.specs.Begins.{bound_for}
 use Rattle.ec_complete.specs.Complete.{IsFaultlessRead}
 use Rattle.ec_complete.specs.Worlds.{Outset}

@@ -12,7 +12,7 @@ use Rattle.ec_protocol.specs.World.{forget, open_world, runs}
 use Rattle.ec_protocol.specs.declared.world.World.{World}
 use Rattle.ec_lawful.specs.Drills.{lines_in}
 use Rattle.ec_lawful.specs.DrillRuns.{AreFit}
-use Rattle.ec_deliveries.specs.Runs.{AllRun}
+use Rattle.ec_quiet.specs.OfDeliveries.Runs.{AllRun}
 use Rattle.ec_complete.specs.Begins.{EachBegins, bound_for}
 use Rattle.ec_complete.specs.Complete.{IsComplete, IsFaultlessRead}
 use Rattle.ec_complete.specs.SettledRuns.{EachSettles, HasRoom}

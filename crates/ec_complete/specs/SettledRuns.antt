@@ -16,7 +16,7 @@ use Rattle.ec_lawful.specs.Drills.{lines_in}
 use Rattle.ec_lawful.specs.DrillRuns.{AreFit}
 use Rattle.ec_quiet.specs.Quiet.{IsIdle}
 use Rattle.ec_quiet.specs.Scenes.{IsScene, Scene}
-use Rattle.ec_deliveries.specs.Runs.{AllRun, HasSettled}
+use Rattle.ec_quiet.specs.OfDeliveries.Runs.{AllRun, HasSettled}
 use Rattle.ec_complete.specs.Complete.{IsFaultlessRead, IsComplete}
 
 -- Each line from this number on meets no fault in its first step, and settles within so many deliveries.

@@ -13,8 +13,8 @@ use Rattle.ec_quiet.specs.Phases.{InPhase, Phase}
 use Rattle.ec_quiet.specs.Scenes.{IsScene, Mail, Scene, delivered}
 use Rattle.ec_quiet.specs.Works.{Work}
 use Rattle.ec_machine_laws.specs.Counts as server
-use Rattle.ec_agreed_lines.specs.Counting as clerk
-use Rattle.ec_deliveries.specs.Coming.{HasNext}
+use Rattle.ec_complete.specs.OfAgreedLines.Counting as clerk
+use Rattle.ec_quiet.specs.OfDeliveries.Coming.{HasNext}
 use Rattle.ec_complete.specs.Lines.{IsOnLine, IsSpare}
 
 -- Ids.

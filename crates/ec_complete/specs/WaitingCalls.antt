@@ -13,10 +13,10 @@ use Rattle.ec_protocol.specs.declared.clerk.Clerk.{Clerk}
 use Rattle.ec_protocol.specs.declared.clerk.Waiting.{Waiting}
 use Rattle.ec_coherence.specs.System.{System, is_open}
 use Rattle.ec_coherence.specs.CommitLaws.{AllAgree}
-use Rattle.ec_clerk_steps.specs.Calls.{CallsAgree}
-use Rattle.ec_clerk_steps.specs.Orderly.{IsOrderly}
-use Rattle.ec_clerk_steps.specs.Zeros.{ZerosAgree}
-use Rattle.ec_clerk_steps.specs.Frees.{FreesAgree}
+use Rattle.ec_lawful.specs.OfClerkSteps.Calls.{CallsAgree}
+use Rattle.ec_lawful.specs.OfClerkSteps.Orderly.{IsOrderly}
+use Rattle.ec_lawful.specs.OfClerkSteps.Zeros.{ZerosAgree}
+use Rattle.ec_lawful.specs.OfClerkSteps.Frees.{FreesAgree}
 use Rattle.ec_quiet.specs.Phases.{IsAged}
 use Rattle.ec_quiet.specs.Works.{Calls, Work}
 use Rattle.ec_quiet.specs.Goes.{MayGo}

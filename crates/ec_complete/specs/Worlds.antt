@@ -10,10 +10,10 @@ use Rattle.ec_quiet.specs.Scenes.{IsScene, Scene}
 use Rattle.ec_quiet.specs.Works.{Work}
 use Rattle.ec_quiet.specs.SettlingScenes.{Reaches}
 use Rattle.ec_machine_laws.specs.Counts as server
-use Rattle.ec_agreed_lines.specs.Counting as clerks
+use Rattle.ec_complete.specs.OfAgreedLines.Counting as clerks
 use Rattle.ec_complete.specs.Spare.{AreGiven, max_calls, max_given}
 use Rattle.ec_complete.specs.Lines.{IsOnLine}
-use Rattle.ec_deliveries.specs.Runs.{CanGoOn, CanSettle}
+use Rattle.ec_quiet.specs.OfDeliveries.Runs.{CanGoOn, CanSettle}
 use Rattle.ec_complete.specs.Begins.{most_sent}
 
 -- What the counters of a run began at: the next session, the next id, and how often each clerk had started.

@@ -4,6 +4,7 @@
 #![tactic(auto)]
 
 mod agreed_calls;
+pub mod agreed_lines;
 mod clerk_rooms;
 mod complete;
 mod faultless_lines;

@@ -1,3 +1,4 @@
 mod MemoryLaws
 pub mod TurnLaws
 mod UndoLaws
+pub mod OfArm

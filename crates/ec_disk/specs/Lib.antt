@@ -10,3 +10,4 @@ pub mod PastLaws
 pub mod Runs
 pub mod Turns
 pub mod Undo
+pub mod OfArm

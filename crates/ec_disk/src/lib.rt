@@ -1,6 +1,7 @@
 //! Disks as the layers above see them: what a read gives, and what a crash may leave.
 #![tactic(auto)]
 
+pub mod arm;
 mod disk;
 mod file;
 mod lent;

@@ -11,7 +11,7 @@ use Rattle.ec_plain.specs.declared.call.Outcome.{Outcome}
 use Rattle.ec_log.specs.Log as logs
 use Rattle.ec_log.specs.declared.state.Asked.TheVariants.{All}
 use Rattle.ec_log.specs.declared.state.LogState.{LogState}
-use Rattle.ec_report.specs.Report.{Owed, owe}
+use Rattle.ec_cache.specs.OfReport.Report.{Owed, owe}
 use Rattle.ec_protocol.specs.declared.clerk.Out.TheVariants as out
 use Rattle.ec_protocol.specs.declared.clerk.Waiting.{Waiting}
 use Rattle.ec_protocol.specs.Clerk as clerk

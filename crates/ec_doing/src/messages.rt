@@ -7,11 +7,11 @@ ghost use Rattle.ec_doing.specs.Seen.{clerk_with, doing_of, enter_if_later, take
 
 use crate::doing::Doing;
 use ec_base::{Age, Hold, List, NoMemory, ObjId, SessionNo};
+use ec_cache::resolve::Verdict;
 use ec_history::Answer;
 use ec_holdings::{forget_numbers, mark_recall, run_from, take_each, use_all};
 use ec_plain::Call;
 use ec_protocol::{Out, Recalled, Waiting};
-use ec_resolve::Verdict;
 use ec_volume::Image;
 use ec_wire::Msg;
 use std::mem;

@@ -4,18 +4,18 @@ ghost use Rattle.ec_volume.specs.Update.{operands};
 ghost use Rattle.ec_volume.specs.declared.update.Update.{Update as Change};
 ghost use Rattle.ec_plain.specs.declared.call.Call.{Call as Asking};
 ghost use Rattle.ec_log.specs.Log.{ops_are_spent};
-ghost use Rattle.ec_resolve.specs.declared.verdict.Verdict.TheVariants as lost;
+ghost use Rattle.ec_cache.specs.declared.resolve.verdict.Verdict.TheVariants as lost;
 ghost use Rattle.ec_protocol.specs.Clerk as clerk;
 ghost use Rattle.ec_doing.specs.Seen.{clerk_with, Does, Tries, HasRoom, LacksRoom, waiting_of, outcome_of};
 
 use crate::doing::{Doing, Tried};
 use ec_base::{List, NoMemory, ObjId, OpNo};
+use ec_cache::resolve::{Verdict, evaluate};
 use ec_history::Answer;
 use ec_holdings::{awaited, is_owing, less_id, suits, use_all};
 use ec_log::{Asked, MAX_UNDURABLE};
 use ec_plain::{Call, Outcome, Reply};
 use ec_protocol::{Out, Waiting};
-use ec_resolve::{Verdict, evaluate};
 use ec_volume::Update;
 
 impl Doing {

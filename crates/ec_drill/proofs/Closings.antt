@@ -12,7 +12,7 @@ use Rattle.ec_protocol.specs.declared.world.WorldFault.{WorldFault}
 use Rattle.ec_protocol.specs.declared.world.WorldFault.TheVariants as fault
 use Rattle.ec_protocol.specs.declared.world.Event.{Event}
 use Rattle.ec_protocol.specs.declared.world.Event.TheVariants as event
-use Rattle.ec_text.specs.Lines.{shown_text, text_of}
+use Rattle.ec_words.specs.OfText.Lines.{shown_text, text_of}
 use Rattle.ec_base.specs.Outside.{Rose}
 use Rattle.ec_disk.specs.Disk.{View, Counts}
 use Rattle.ec_stands.specs.Stands.{StandsFor}

@@ -13,7 +13,7 @@ use Rattle.ec_protocol.specs.declared.script.Line.{Line}
 use Rattle.ec_protocol.specs.declared.world.World.{World}
 use Rattle.ec_protocol.specs.declared.world.WorldFault.{WorldFault}
 use Rattle.ec_protocol.specs.declared.world.WorldFault.TheVariants as fault
-use Rattle.ec_text.specs.Lines.{text_of}
+use Rattle.ec_words.specs.OfText.Lines.{text_of}
 use Rattle.ec_drill.specs.Arms.{LineArms}
 use Rattle.ec_drill.specs.Closing.{ran_to}
 use Rattle.ec_drill.specs.Fates.{IsKnown}

@@ -5,7 +5,7 @@ use Rattle.std.proofs.lemmas.Bool.{eqb-true}
 use Rattle.ec_base.specs.Tables.{once}
 use Rattle.ec_drill.specs.Lines.{noted}
 use Rattle.ec_volume.specs.Update.{member}
-use Rattle.ec_report.proofs.Lists.{member-append}
+use Rattle.ec_cache.proofs.OfReport.Lists.{member-append}
 
 abbrev pub fresh : List ℕ → List ℕ → List ℕ
 fresh seen xs = filter (λ y. not (member y seen)) (once xs)

@@ -12,3 +12,4 @@ pub mod Closings
 pub mod Ends
 pub mod Fits
 pub mod Given
+pub mod OfPromise

@@ -9,7 +9,7 @@ use Rattle.ec_protocol.specs.Drill as machine
 use Rattle.ec_protocol.specs.declared.script.Line.{Line}
 use Rattle.ec_protocol.specs.declared.world.World.{World}
 use Rattle.ec_protocol.specs.declared.world.WorldFault.{WorldFault}
-use Rattle.ec_text.specs.Lines.{text_of}
+use Rattle.ec_words.specs.OfText.Lines.{text_of}
 use Rattle.ec_drill.specs.Arms.{RunArms}
 use Rattle.ec_drill.specs.Fates.{IsKnown}
 use Rattle.ec_drill.specs.Left.{fates_behind, behind_lines, in_line, IsOfMoment}

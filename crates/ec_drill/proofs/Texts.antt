@@ -3,7 +3,7 @@ use Rattle.std.proofs.Common.{◌≡◌, ℕ, List, [], ◌∷◌, ◌++◌, Opt
 use Rattle.std.specs.Io.KnownBytes.{Appends}
 use Rattle.ec_history.specs.declared.shown.Shown.{Shown}
 use Rattle.ec_protocol.specs.Drill.{joined}
-use Rattle.ec_text.specs.Lines.{shown_text, text_of}
+use Rattle.ec_words.specs.OfText.Lines.{shown_text, text_of}
 
 pub nothing : (held : Option (List ℕ)) → Appends held held []
 nothing None = tt

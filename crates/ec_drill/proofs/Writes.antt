@@ -3,7 +3,7 @@ use Rattle.std.proofs.Common.{◌≡◌, ◌<◌, ◌≤◌, ℕ, zero, suc, Lis
 use Rattle.std.proofs.Math.ListN.{get_or}
 use Rattle.std.specs.Io.KnownBytes.{Appends}
 use Rattle.ec_history.specs.declared.shown.Shown.{Shown}
-use Rattle.ec_text.specs.Lines.{shown_text, text_of}
+use Rattle.ec_words.specs.OfText.Lines.{shown_text, text_of}
 use Rattle.ec_drill.specs.Cuts.{IsPartOf}
 use Rattle.ec_drill.specs.Steps.{CutBy, CutText, CutLines, IsCause}
 use Rattle.ec_drill.specs.declared.writing.Cut.{Cut}

@@ -9,7 +9,7 @@ use Rattle.ec_drill.specs.declared.status.Status.TheVariants as own
 use Rattle.ec_protocol.specs.declared.world.World.{World}
 use Rattle.ec_protocol.specs.declared.world.WorldFault.{WorldFault}
 use Rattle.ec_protocol.specs.declared.world.WorldFault.TheVariants as fault
-use Rattle.ec_text.specs.Lines.{text_of}
+use Rattle.ec_words.specs.OfText.Lines.{text_of}
 use Rattle.ec_drill.specs.Cuts.{IsPartOf}
 use Rattle.ec_drill.specs.Left.{EachLeft}
 use Rattle.ec_drill.specs.ExitCodes.{code}

@@ -1,7 +1,7 @@
 -- Parts of lines.
 use Rattle.std.specs.Prelude.{◌≡◌, ◌⊎◌, ◌<◌, ℕ, List, [], ◌∷◌, length, take}
 use Rattle.ec_history.specs.declared.shown.Shown.{Shown}
-use Rattle.ec_text.specs.Lines.{shown_text}
+use Rattle.ec_words.specs.OfText.Lines.{shown_text}
 
 -- a front of the text, not the whole
 pub record IsCutFront (text front : List ℕ) : Type 0 where

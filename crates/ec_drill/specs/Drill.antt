@@ -10,7 +10,7 @@ use Rattle.ec_history.specs.declared.shown.Shown.TheVariants.{Limit, DiskBad}
 use Rattle.ec_durable.specs.declared.state.Durable.{Durable}
 use Rattle.ec_stands.specs.Stands.{StandsFor, IsBadAt}
 use Rattle.ec_script.specs.Lines.{lines_of}
-use Rattle.ec_text.specs.Lines.{shown_text, text_of}
+use Rattle.ec_words.specs.OfText.Lines.{shown_text, text_of}
 use Rattle.ec_protocol.specs.declared.world.World.{World}
 use Rattle.ec_protocol.specs.World.{open_world}
 use Rattle.ec_protocol.specs.Drill.{Read, Fates, Ran, run_from, bound, close, drill}

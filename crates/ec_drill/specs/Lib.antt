@@ -12,3 +12,4 @@ pub mod Drill
 pub mod ExitCodes
 pub mod Closing
 pub mod Starts
+pub mod OfPromise

@@ -6,7 +6,7 @@ use Rattle.ec_disk.specs.Disk.{View, Counts}
 use Rattle.ec_history.specs.declared.shown.Shown.{Shown}
 use Rattle.ec_history.specs.declared.shown.Shown.TheVariants.{DiskBad, Spent}
 use Rattle.ec_script.specs.Lines.{lines_of}
-use Rattle.ec_text.specs.Lines.{shown_text, text_of}
+use Rattle.ec_words.specs.OfText.Lines.{shown_text, text_of}
 use Rattle.ec_protocol.specs.Drill.{Read, Fates, bound, drill_in}
 use Rattle.ec_protocol.specs.declared.world.World.{World}
 use Rattle.ec_protocol.specs.declared.world.WorldFault.{WorldFault}

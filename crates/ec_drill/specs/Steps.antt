@@ -12,7 +12,7 @@ use Rattle.ec_protocol.specs.declared.script.Line.{Line}
 use Rattle.ec_protocol.specs.declared.world.World.{World}
 use Rattle.ec_protocol.specs.declared.world.WorldFault.{WorldFault}
 use Rattle.ec_protocol.specs.declared.world.WorldFault.TheVariants as fault
-use Rattle.ec_text.specs.Lines.{shown_text, text_of}
+use Rattle.ec_words.specs.OfText.Lines.{shown_text, text_of}
 use Rattle.ec_world.specs.StepEnds.{HasStopped}
 use Rattle.ec_drill.specs.Arms.{RunArms}
 use Rattle.ec_drill.specs.Fates.{AllRun, IsKnown}

@@ -2,7 +2,7 @@
 ghost use Rattle.std.specs.Prelude.{◌≡◌, ◌≤◌, [], List, None, MatchResult, OnOk};
 ghost use Rattle.std.specs.Io.KnownBytes.{Appends};
 ghost use Rattle.ec_history.specs.declared.shown.Shown.{Shown};
-ghost use Rattle.ec_text.specs.Lines.{shown_text};
+ghost use Rattle.ec_words.specs.OfText.Lines.{shown_text};
 ghost use Rattle.ec_protocol.specs.Drill.{last_line};
 ghost use Rattle.ec_world.specs.Worlds.{view_of, IsInStep};
 ghost use Rattle.ec_drill.specs.ExitCodes.{code};

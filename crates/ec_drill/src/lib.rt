@@ -5,6 +5,7 @@ mod carrying;
 mod closing;
 mod event;
 mod limits;
+pub mod promise;
 mod running;
 mod script;
 mod start;

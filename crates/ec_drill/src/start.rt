@@ -2,7 +2,7 @@
 ghost use Rattle.std.specs.Prelude.{◌≡◌, ◌≤◌, ◌<◌, ◌^◌, Bool, None, map, length, MatchResult, IfOk, IfErr, OnOk};
 ghost use Rattle.std.specs.Io.KnownBytes.{Appends};
 ghost use Rattle.ec_durable.specs.WellFormed.{least_max_objects, most_max_objects};
-ghost use Rattle.ec_text.specs.Lines.{shown_text};
+ghost use Rattle.ec_words.specs.OfText.Lines.{shown_text};
 ghost use Rattle.ec_world.specs.Worlds.{view_of, IsInStep};
 ghost use Rattle.ec_drill.specs.Arms.{any_arm};
 ghost use Rattle.ec_drill.specs.ArmedSteps.{IsCalm, heard};

@@ -1,13 +1,13 @@
 // Transcript lines are written.
 ghost use Rattle.std.specs.Prelude.{◌≡◌, ◌≤◌, IfErr, OnOk};
 ghost use Rattle.std.specs.Io.KnownBytes.{Appends};
-ghost use Rattle.ec_text.specs.Lines.{shown_text, text_of};
+ghost use Rattle.ec_words.specs.OfText.Lines.{shown_text, text_of};
 ghost use Rattle.ec_drill.specs.Steps.{CutText, CutLines};
 
 use ec_base::Sink;
 use ec_history::Shown;
 use ec_streams::{WriteFault, write_whole};
-use ec_text::print;
+use ec_words::text::print;
 use std::alloc::Global;
 
 /// Why a run was cut off.

@@ -6,3 +6,4 @@ pub mod Changing
 pub mod Slots
 pub mod Batches
 pub mod Kept
+pub mod OfWellFormed

@@ -2,7 +2,7 @@
 use Rattle.std.proofs.Common.{◌≡◌, ℕ, List, Option, inl, inr, sym, subst}
 use Rattle.std.specs.Prelude.{Result, Ok, Err, IfOk, MatchResult}
 use Rattle.std.specs.Io.KnownBytes.{Appends}
-use Rattle.ec_gen.specs.Generator.{script_of}
+use Rattle.ec_script.specs.OfGenerator.Generator.{script_of}
 use Rattle.ec_echo.specs.Check.{Streams, Finds, Judged}
 use Rattle.ec_echo.specs.Echo.{Made}
 use Rattle.ec_echo.specs.Made.{made_lines}

@@ -4,3 +4,4 @@ mod Starts
 mod Greeting
 mod Usage
 pub mod Soaks
+pub mod OfNamed

@@ -5,7 +5,7 @@ use Rattle.ec_history.specs.History.{Each}
 use Rattle.ec_plain.specs.declared.call.Call.{Call}
 use Rattle.ec_plain.specs.declared.call.Call.TheVariants as call
 use Rattle.ec_volume.specs.Volume.{Images}
-use Rattle.ec_gen.specs.Generator.{script_of}
+use Rattle.ec_script.specs.OfGenerator.Generator.{script_of}
 use Rattle.ec_script.specs.Lines.{lines_of}
 use Rattle.ec_script.specs.declared.line.Line.TheVariants as line
 use Rattle.ec_script.proofs.LinedOnce.{line_once}
@@ -21,10 +21,10 @@ use Rattle.ec_complete.specs.Rooms as rooms
 use Rattle.ec_drill.specs.Drill.{Outside}
 use Rattle.ec_drill.specs.Limits.{most_objects}
 use Rattle.ec_drill.specs.Script.{AreRead, machine_line}
-use Rattle.ec_promise.specs.Completes.{GivesPlainScript}
-use Rattle.ec_promise.proofs.Named.{few-named}
-use Rattle.ec_made.specs.Made as made
-use Rattle.ec_made.proofs.Made.{made-lines-call}
+use Rattle.ec_drill.specs.OfPromise.Completes.{GivesPlainScript}
+use Rattle.ec_drill.proofs.OfPromise.Named.{few-named}
+use Rattle.ec_script.specs.OfMade.Made as made
+use Rattle.ec_script.proofs.OfMade.Made.{made-lines-call}
 use Rattle.ec_echo.specs.Made.{made_lines}
 use Rattle.ec_echo.specs.SoakDrills.{within}
 use Rattle.ec_base.specs.Bools.{one_if, one_if as made_one_if}

@@ -2,15 +2,15 @@
 use Rattle.std.proofs.Common.{◌≡◌, ◌==◌, ℕ, true, List, [], ◌∷◌, ◌++◌, length, refl, sym, ap, subst, ◌∙◌, append_assoc, append-nil, arith, inl, inr, Option, Some}
 use Rattle.std.specs.Prelude.{Result, Ok, Err, IfOk, MatchResult}
 use Rattle.ec_script.specs.Lines.{lines_of}
-use Rattle.ec_gen.specs.Generator.{script_of}
+use Rattle.ec_script.specs.OfGenerator.Generator.{script_of}
 use Rattle.ec_drill.specs.Drill.{Outside, Drilled}
 use Rattle.ec_drill.specs.Limits.{most_objects}
 use Rattle.ec_drill.specs.declared.status.Status as drilled
 use Rattle.ec_echo.specs.Made.{made_lines}
-use Rattle.ec_promise.proofs.Completes.{drills-complete}
-use Rattle.ec_promise.proofs.Lawful.{drills-lawful}
-use Rattle.ec_promise.proofs.Rooms.{drills-told}
-use Rattle.ec_promise.proofs.Spent.{drills-spent}
+use Rattle.ec_drill.proofs.OfPromise.Completes.{drills-complete}
+use Rattle.ec_drill.proofs.OfPromise.Lawful.{drills-lawful}
+use Rattle.ec_drill.proofs.OfPromise.Rooms.{drills-told}
+use Rattle.ec_drill.proofs.OfPromise.Spent.{drills-spent}
 use Rattle.ec_echo.proofs.Plain.{made-plain}
 use Rattle.ec_echo.specs.Soak.{AreSorts, IsSort, Told, TellsCounts, TellsLast, summary_text, last_text}
 use Rattle.ec_echo.specs.SoakDrills.{Soaked, within}

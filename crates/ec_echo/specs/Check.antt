@@ -7,7 +7,7 @@ use Rattle.ec_history.specs.declared.rule.Rule.{Rule}
 use Rattle.ec_history.specs.declared.rule.Rule.TheVariants as rule
 use Rattle.ec_history.specs.declared.shown.Shown.TheVariants as shown
 use Rattle.ec_history.specs.declared.shown.LimitName.TheVariants as limit
-use Rattle.ec_text.specs.Lines.{shown_text}
+use Rattle.ec_words.specs.OfText.Lines.{shown_text}
 use Rattle.ec_check.specs.Checked.{IsChecked, IsRefused}
 use Rattle.ec_check.specs.declared.checking.Checked.TheVariants as checked
 use Rattle.ec_check.specs.declared.checking.CheckFault.TheVariants as fault

@@ -2,7 +2,7 @@
 use Rattle.std.specs.Prelude.{◌≡◌, ◌⊎◌, ℕ, List, Option}
 use Rattle.std.specs.Io.KnownBytes.{Appends}
 use Rattle.ec_base.specs.Outside.{Rose}
-use Rattle.ec_gen.specs.Generator.{script_of}
+use Rattle.ec_script.specs.OfGenerator.Generator.{script_of}
 use Rattle.ec_drill.specs.Drill.{Outside, IsDiskUntouched}
 use Rattle.ec_serve.specs.Serve.{Outer, Outside as Serving}
 use Rattle.ec_mount.specs.Mount.{Outside as Mounting}

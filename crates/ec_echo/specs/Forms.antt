@@ -2,11 +2,11 @@
 use Rattle.std.specs.Prelude.{◌≡◌, ◌⊎◌, ℕ, List}
 use Rattle.ec_drill.specs.Drill.{Outside, Drilled, IsDiskUntouched}
 use Rattle.ec_drill.specs.declared.status.Status as drilled
-use Rattle.ec_promise.specs.LawfulEnds.{IsLawful}
-use Rattle.ec_promise.specs.PlainEnds.{Completes}
-use Rattle.ec_promise.specs.Rooms.{TellsRoom}
-use Rattle.ec_promise.specs.Spent.{TellsSpent}
-use Rattle.ec_node_laws.specs.Claims.{ClaimsComeFirst}
+use Rattle.ec_drill.specs.OfPromise.LawfulEnds.{IsLawful}
+use Rattle.ec_drill.specs.OfPromise.PlainEnds.{Completes}
+use Rattle.ec_drill.specs.OfPromise.Rooms.{TellsRoom}
+use Rattle.ec_drill.specs.OfPromise.Spent.{TellsSpent}
+use Rattle.ec_machine_laws.specs.OfNodeLaws.Claims.{ClaimsComeFirst}
 use Rattle.ec_mount.specs.Mount.{Mounts, StartsAs}
 use Rattle.ec_mount.specs.declared.status.Status as mounted
 use Rattle.ec_echo.specs.Check.{Judged}

@@ -10,3 +10,4 @@ pub mod Serving
 pub mod Greeting
 pub mod Echo
 pub mod Forms
+pub mod OfNamed

@@ -1,7 +1,7 @@
 -- What the program tells of a server that ended.
 use Rattle.std.specs.Prelude.{◌≡◌, ◌⊎◌, ℕ, List, Option}
 use Rattle.ec_history.specs.declared.shown.Shown.TheVariants as shown
-use Rattle.ec_text.specs.Lines.{shown_text}
+use Rattle.ec_words.specs.OfText.Lines.{shown_text}
 use Rattle.ec_serve.specs.Serve.{Outside, Serves}
 use Rattle.ec_serve.specs.declared.ending.Ending.{Ending}
 use Rattle.ec_serve.specs.declared.ending.Ending.TheVariants as ending

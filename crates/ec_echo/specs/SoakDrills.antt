@@ -1,11 +1,11 @@
 -- The drill of a script that the program makes itself.
 use Rattle.std.specs.Prelude.{◌⊎◌, ℕ, List, [], Option, Some}
-use Rattle.ec_gen.specs.Generator.{script_of}
+use Rattle.ec_script.specs.OfGenerator.Generator.{script_of}
 use Rattle.ec_drill.specs.Drill.{Outside, Drilled}
-use Rattle.ec_promise.specs.LawfulEnds.{HasNewDisk, IsLawful}
-use Rattle.ec_promise.specs.PlainEnds.{EndsPlainly}
-use Rattle.ec_promise.specs.Rooms.{TellsRoom}
-use Rattle.ec_promise.specs.Spent.{TellsSpent}
+use Rattle.ec_drill.specs.OfPromise.LawfulEnds.{HasNewDisk, IsLawful}
+use Rattle.ec_drill.specs.OfPromise.PlainEnds.{EndsPlainly}
+use Rattle.ec_drill.specs.OfPromise.Rooms.{TellsRoom}
+use Rattle.ec_drill.specs.OfPromise.Spent.{TellsSpent}
 use Rattle.ec_drill.specs.Limits.{most_objects}
 use Rattle.ec_drill.specs.declared.status.Status as drilled
 use Rattle.ec_echo.specs.Made.{made_lines}

@@ -14,6 +14,7 @@ mod checking;
 mod command;
 mod making;
 mod memory;
+pub mod named;
 mod serving;
 mod soaking;
 mod status;

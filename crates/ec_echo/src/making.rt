@@ -5,7 +5,7 @@ ghost use Rattle.ec_echo.specs.Echo.{Made};
 use crate::status::Status;
 use crate::writing::write_made;
 use ec_base::Sink;
-use ec_gen::script;
+use ec_script::generator::script;
 use std::alloc::Global;
 
 /// `make` and `soak` make scripts of so many lines.

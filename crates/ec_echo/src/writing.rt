@@ -1,6 +1,6 @@
 // Texts are written.
 ghost use Rattle.std.specs.Prelude.{◌≡◌, ◌≤◌, IfOk, MatchResult};
-ghost use Rattle.ec_text.specs.Lines.{shown_text};
+ghost use Rattle.ec_words.specs.OfText.Lines.{shown_text};
 ghost use Rattle.ec_echo.specs.Written.{WroteWith, WroteNothing};
 
 use crate::status::Status;
@@ -42,7 +42,7 @@ pub(crate) fn write_text<K: Sink>(sink: &mut K, text: &[u8], status: Status) -> 
 pub(crate) fn line_text(alloc: Global, line: Shown) -> Result<Vec<u8>, NoMemory>
     ensures { IfOk result (λ text. text.items ≡ shown_text line) }
 {
-    let text = ec_text::print(alloc, &line);
+    let text = ec_words::text::print(alloc, &line);
     drop(line);
     text
 }

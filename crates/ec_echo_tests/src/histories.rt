@@ -1,8 +1,8 @@
 // Transcripts as histories: whether they are legal, what they keep, and what the first start of clerk A owes.
 use ec_base::ClerkId;
 use ec_history::Rule;
+use ec_legal::transcript::read_lines;
 use ec_legal::{History, HistoryFault, place};
-use ec_transcript::read_lines;
 use std::alloc::Global;
 
 // A session ends under its running clerk, and a late answer stands before its loss, which is told and reported.

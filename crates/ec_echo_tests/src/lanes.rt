@@ -7,7 +7,7 @@ use ec_history::Answer;
 use ec_link::{Around, MemLink};
 use ec_lock::Pass;
 use ec_plain::Call;
-use ec_text::print_answer;
+use ec_words::text::print_answer;
 use std::alloc::Global;
 use std::sync::atomic::{AtomicBool, Ordering};
 

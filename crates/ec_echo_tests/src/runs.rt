@@ -1,8 +1,8 @@
 // The program's one call over sources, sinks, disks and nets in memory, and what it came to.
 use ec_base::{MemSink, MemSource, NoMemory};
 use ec_disk::{CrashDisk, MemDisk};
+use ec_echo::named::echo_main;
 use ec_link::{Around, MemNet, Spawner, ThreadSpawner};
-use ec_named::echo_main;
 use std::alloc::{AllocError, Global};
 use std::io::Eprint;
 use std::net::{TcpListener, TcpStream};

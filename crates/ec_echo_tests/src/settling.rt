@@ -8,7 +8,7 @@ use ec_lock::Pass;
 use ec_log::Asked;
 use ec_plain::Call;
 use ec_protocol::Flushed;
-use ec_text::print_answer;
+use ec_words::text::print_answer;
 use std::sync::Mutex;
 
 fn is_created<R: Around>(

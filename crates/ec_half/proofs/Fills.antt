@@ -4,7 +4,7 @@ use Rattle.std.specs.Prelude.{max}
 use Rattle.std.proofs.Math.ListN.{drop_of_length-le}
 use Rattle.std.proofs.lemmas.List.{take_all, length-replicate, replicate-append-replicate, append-nil}
 use Rattle.ec_disk.specs.Effects.{written}
-use Rattle.ec_slots.specs.Contents.{filled, filled-same}
+use Rattle.ec_half.specs.OfSlots.Contents.{filled, filled-same}
 
 pub length-filled : (bytes : List ℕ) (len : ℕ) → length (filled bytes len) ≡ max (length bytes) len
 length-filled bytes len = omega (arith, length-append bytes (replicate (len - length bytes) 0), length-replicate {A = ℕ} (len - length bytes) 0)

@@ -18,7 +18,7 @@ use Rattle.ec_disk.specs.declared.disk.DiskLen.{DiskLen}
 use Rattle.ec_disk.specs.declared.disk.DiskLen.TheVariants as len
 use Rattle.ec_disk.specs.declared.disk.Choice.{Choice}
 use Rattle.ec_disk.specs.declared.disk.Choice.TheVariants as choice
-use Rattle.ec_slots.specs.Contents.{content, content-written, part-content, length-content, byte-content}
+use Rattle.ec_half.specs.OfSlots.Contents.{content, content-written, part-content, length-content, byte-content}
 use Rattle.ec_half.specs.Contents.{IsHalf, HasHeader, HasLength, Rested, Stays, Fewer, Loosened, content_behind, behind-wrote, behind-raised, long-fewer, long-after}
 use Rattle.ec_base.proofs.Options.{none-number}
 

@@ -4,9 +4,9 @@ use Rattle.std.proofs.lemmas.List.{ext_get_or}
 use Rattle.std.specs.Int.{w64, from_be_bytes}
 use Rattle.ec_disk.specs.Disk.{View, byte, part}
 use Rattle.ec_disk.specs.Images.{length-part, byte-part}
-use Rattle.ec_slots.specs.declared.slot.Slot.{Slot}
-use Rattle.ec_slots.specs.declared.slot.Slot.TheVariants as slot
-use Rattle.ec_slots.specs.Slots.{gate_in, number_in, other, place_of}
+use Rattle.ec_half.specs.declared.slots.slot.Slot.{Slot}
+use Rattle.ec_half.specs.declared.slots.slot.Slot.TheVariants as slot
+use Rattle.ec_half.specs.OfSlots.Slots.{gate_in, number_in, other, place_of}
 use Rattle.ec_half.specs.declared.fault.MirrorFault.{MirrorFault}
 use Rattle.ec_half.specs.declared.fault.MirrorFault.TheVariants as fault
 use Rattle.ec_half.specs.declared.header.Found.{Found}

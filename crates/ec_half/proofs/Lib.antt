@@ -2,3 +2,4 @@ pub mod Copies
 pub mod Fills
 pub mod Halves
 pub mod Headers
+pub mod OfSlots

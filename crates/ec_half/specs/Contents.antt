@@ -4,8 +4,8 @@ use Rattle.std.proofs.Common.{arith, ◌∙◌, ap, refl, sym, subst}
 use Rattle.ec_disk.specs.Disk.{View}
 use Rattle.ec_disk.specs.Effects.{Loose, InRange, After, IsSynced, Rests, Wrote}
 use Rattle.ec_disk.specs.Runs.{loose-same}
-use Rattle.ec_slots.specs.Contents.{content, byte-content, length-content}
-use Rattle.ec_slots.specs.Slots.{header_bytes}
+use Rattle.ec_half.specs.OfSlots.Contents.{content, byte-content, length-content}
+use Rattle.ec_half.specs.OfSlots.Slots.{header_bytes}
 
 -- a disk's content at one moment: what a read gives, what was synced, and what a crash may leave
 pub record Content : Type 1 where

@@ -2,9 +2,9 @@
 use Rattle.std.specs.Prelude.{◌≡◌, ◌⊎◌, ◌<◌, ◌≤◌, ◌+◌, ◌^◌, ℕ, true, false, List, length, Option, Some, None, codes}
 use Rattle.std.specs.Int.{w64, from_be_bytes}
 use Rattle.ec_disk.specs.Disk.{byte, part}
-use Rattle.ec_slots.specs.declared.slot.Slot.{Slot}
-use Rattle.ec_slots.specs.declared.slot.Slot.TheVariants as slot
-use Rattle.ec_slots.specs.Slots.{gate_in, number_in, open_gate, other, header_bytes}
+use Rattle.ec_half.specs.declared.slots.slot.Slot.{Slot}
+use Rattle.ec_half.specs.declared.slots.slot.Slot.TheVariants as slot
+use Rattle.ec_half.specs.OfSlots.Slots.{gate_in, number_in, open_gate, other, header_bytes}
 use Rattle.ec_half.specs.declared.header.Found.{Found}
 use Rattle.ec_half.specs.declared.header.Found.TheVariants as found
 use Rattle.ec_half.specs.declared.header.Generation.{Generation}

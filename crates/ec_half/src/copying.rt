@@ -3,7 +3,7 @@ ghost use Rattle.std.specs.Prelude.{◌≡◌, ◌<◌, ◌≤◌, ◌+◌, ◌�
 ghost use Rattle.ec_disk.specs.declared.disk.DiskAnswer.{DiskAnswer};
 ghost use Rattle.ec_disk.specs.declared.disk.DiskAnswer.TheVariants as said;
 ghost use Rattle.ec_half.specs.Contents.{content_behind, HasHeader, Rested, Stays, AllSynced};
-ghost use Rattle.ec_slots.specs.Contents.{filled};
+ghost use Rattle.ec_half.specs.OfSlots.Contents.{filled};
 ghost use Rattle.ec_half.specs.declared.copying.Joined.TheVariants as joined;
 ghost use Rattle.ec_half.specs.declared.copying.Copied.TheVariants as copied;
 

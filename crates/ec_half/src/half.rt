@@ -7,11 +7,11 @@ ghost use Rattle.ec_disk.specs.Choices.{cut};
 ghost use Rattle.ec_disk.specs.Disk.{part};
 ghost use Rattle.ec_disk.specs.Effects.{InRange, written};
 ghost use Rattle.ec_half.specs.Contents.{IsHalf, HasHeader, HasLength, content_behind, Rested, Stays, Fewer, Loosened, AllSynced};
-ghost use Rattle.ec_slots.specs.Slots.{header_bytes};
+ghost use Rattle.ec_half.specs.OfSlots.Slots.{header_bytes};
 
 use crate::header::{Generation, HEADER_BYTES, raise};
+use ec_base::trace::Trace;
 use ec_disk::{Choice, CrashDisk, DiskAnswer, DiskLen};
-use ec_trace::Trace;
 
 #[derive(Drop)]
 pub struct Half<'a, D: CrashDisk> {

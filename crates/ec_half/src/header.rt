@@ -9,12 +9,12 @@ ghost use Rattle.ec_half.specs.Headers.{ShowsHeader, IsNewest, IsFound, IsBad, I
 ghost use Rattle.ec_half.specs.declared.fault.MirrorFault.TheVariants as fault;
 ghost use Rattle.ec_half.specs.declared.header.Found.TheVariants as found;
 ghost use Rattle.ec_half.specs.declared.header.Generation.{Generation};
-ghost use Rattle.ec_slots.specs.Contents.{content};
-ghost use Rattle.ec_slots.specs.Slots.{header_bytes};
+ghost use Rattle.ec_half.specs.OfSlots.Contents.{content};
+ghost use Rattle.ec_half.specs.OfSlots.Slots.{header_bytes};
 
 use crate::fault::{MirrorFault, done};
+use crate::slots::{Slot, write_open, write_shut};
 use ec_disk::{Disk, DiskAnswer, DiskLen};
-use ec_slots::{Slot, write_open, write_shut};
 
 /// The bytes in front of the content.
 pub const HEADER_BYTES: u64 = 4_096;

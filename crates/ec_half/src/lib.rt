@@ -5,6 +5,7 @@ mod copying;
 mod fault;
 mod half;
 mod header;
+pub mod slots;
 
 pub use copying::{Joined, join, lengthen};
 pub use fault::{MirrorFault, done};

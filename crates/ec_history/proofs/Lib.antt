@@ -1,2 +1,3 @@
 pub mod HistoryLemmas
 pub mod PlacingLemmas
+pub mod OfLaws

@@ -3,3 +3,4 @@ pub mod Legal
 pub mod Placing
 pub mod Lines
 pub mod Written
+pub mod OfLaws

@@ -10,16 +10,16 @@ use Rattle.ec_base.specs.Tables.{keys}
 use Rattle.ec_volume.specs.Update.{member, operands}
 use Rattle.ec_volume.specs.declared.update.Update.{Update}
 use Rattle.ec_order.specs.Order.{Issued, Holds}
-use Rattle.ec_chains.specs.Held.{is_behind}
-use Rattle.ec_chains.specs.ClosureLaws.{passes-member}
+use Rattle.ec_log.specs.OfChains.Held.{is_behind}
+use Rattle.ec_log.specs.OfChains.ClosureLaws.{passes-member}
 use Rattle.ec_log.specs.Log as logs
 use Rattle.ec_log.specs.LogOrder as log_order
 use Rattle.ec_log.specs.declared.state.LogState.{LogState}
 use Rattle.ec_log.specs.declared.state.Pick.{Pick}
 use Rattle.ec_log.specs.declared.state.Pick.TheVariants as pick_of
 use Rattle.ec_sessions.specs.declared.window.Window.{Window}
-use Rattle.ec_report.specs.Report.{Owed, owe, pairs_of}
-use Rattle.ec_report.specs.OwedOrder.{come_behind}
+use Rattle.ec_cache.specs.OfReport.Report.{Owed, owe, pairs_of}
+use Rattle.ec_cache.specs.OfReport.OwedOrder.{come_behind}
 use Rattle.ec_protocol.specs.Clerk.{with_operands}
 use Rattle.ec_holdings.specs.Owing.{lost_of, owed_before}
 use Rattle.ec_base.proofs.Bools.{below}

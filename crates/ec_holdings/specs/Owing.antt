@@ -3,7 +3,7 @@ use Rattle.std.specs.Prelude.{ℕ, Bool, nat_lt, List, filter}
 use Rattle.std.specs.List.{list_all}
 use Rattle.ec_volume.specs.Update.{member}
 use Rattle.ec_order.specs.Order.{Issued}
-use Rattle.ec_report.specs.Report.{Owed}
+use Rattle.ec_cache.specs.OfReport.Report.{Owed}
 
 -- those of the operations that have one of these numbers
 abbrev pub lost_of : List ℕ → Issued → Issued

@@ -1,16 +1,16 @@
 // The operations of a session, and the lost ones of earlier sessions.
 ghost use Rattle.std.specs.Prelude.{◌≡◌, [], ◌∷◌, ℕ, List as Listed, true, IfOk, OnOk, MatchOption};
 ghost use Rattle.ec_base.specs.Tables.{keys};
-ghost use Rattle.ec_chains.specs.Slots.{live};
+ghost use Rattle.ec_log.specs.OfChains.Slots.{live};
 ghost use Rattle.ec_log.specs.Log as logs;
-ghost use Rattle.ec_report.specs.Report as report;
+ghost use Rattle.ec_cache.specs.OfReport.Report as report;
 ghost use Rattle.ec_protocol.specs.Clerk as clerk;
 ghost use Rattle.ec_holdings.specs.Owing.{lost_of, owed_before};
 
 use ec_base::{List, NoMemory, ObjId, OpNo};
-use ec_chains::Slot;
+use ec_cache::report::Report;
 use ec_log::Log;
-use ec_report::Report;
+use ec_log::chains::Slot;
 use ec_sessions::Window;
 use ec_volume::operands;
 use std::alloc::Global;

@@ -1,10 +1,10 @@
 // The objects of undurable operations.
 ghost use Rattle.std.specs.Prelude.{◌≡◌, IfOk};
-ghost use Rattle.ec_chains.specs.Slots.{live};
+ghost use Rattle.ec_log.specs.OfChains.Slots.{live};
 ghost use Rattle.ec_protocol.specs.Clerk as clerk;
 
 use ec_base::{NoMemory, ObjId};
-use ec_chains::Slot;
+use ec_log::chains::Slot;
 use ec_volume::operands;
 use std::alloc::Global;
 

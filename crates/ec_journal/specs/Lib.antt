@@ -3,3 +3,4 @@ pub mod Journal
 pub mod Laws
 pub mod Records
 pub mod RecordBytes
+pub mod OfLayout

@@ -4,6 +4,7 @@
 mod device;
 mod fault;
 mod journal;
+pub mod layout;
 mod read;
 mod staged;
 

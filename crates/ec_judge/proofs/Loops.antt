@@ -11,7 +11,7 @@ use Rattle.ec_order.specs.Order.{before}
 use Rattle.ec_volume.specs.declared.update.Update.{Update}
 use Rattle.ec_history.specs.History.{Op, Owed, updates, pairs_of}
 use Rattle.ec_history.specs.Legal.{is_closed}
-use Rattle.ec_outside.proofs.Known.{any-either, any-same}
+use Rattle.ec_pending.proofs.OfOutside.Known.{any-either, any-same}
 use Rattle.ec_judge.specs.declared.carried.Kept.{Kept}
 use Rattle.ec_judge.proofs.Volumes.{fits-more, after-more, unfit-not}
 use Rattle.ec_judge.specs.Carried.{op_of, ops_of, IsFrontKept}

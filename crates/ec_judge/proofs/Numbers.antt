@@ -10,22 +10,22 @@ use Rattle.std.proofs.lemmas.Bool.{and_parts, eqb-true, true≢false}
 use Rattle.std.proofs.lemmas.List.Elements.{filter-append}
 use Rattle.ec_volume.specs.Update.{member}
 use Rattle.ec_volume.specs.declared.update.Update.{Update}
-use Rattle.ec_chains.specs.Held.{is_behind}
-use Rattle.ec_chains.proofs.Rising.{sorted_more}
+use Rattle.ec_log.specs.OfChains.Held.{is_behind}
+use Rattle.ec_log.proofs.OfChains.Rising.{sorted_more}
 use Rattle.ec_history.specs.History.{Base, History, Op, Throughout, Each, Covers, same_start, of_start, is_one_of, of_issue, outcome, kept, kept_next, issued, issued_by, without, is_lost, names}
 use Rattle.ec_history.specs.Legal.{IsLegal, IsLegalNext, leaves, is_call_of_other}
 use Rattle.ec_history.specs.declared.entry.Answer.{Answer}
 use Rattle.ec_history.specs.declared.entry.Entry.{Entry}
 use Rattle.ec_history.specs.declared.entry.Entry.TheVariants as entry
-use Rattle.ec_laws.proofs.Cuts.{throughout-append}
-use Rattle.ec_laws.proofs.Issues.{by-steps}
-use Rattle.ec_laws.proofs.Unlost as unlosts
-use Rattle.ec_laws.proofs.More.{kept-step, issued-step, is_lost-append, count-step}
-use Rattle.ec_laws.proofs.Numbers.{count, IsUpTo, issued-up_to, kept-up_to, kept-each, throughout-issued, covers-up_to, each-append}
+use Rattle.ec_history.proofs.OfLaws.Cuts.{throughout-append}
+use Rattle.ec_history.proofs.OfLaws.Issues.{by-steps}
+use Rattle.ec_history.proofs.OfLaws.Unlost as unlosts
+use Rattle.ec_history.proofs.OfLaws.More.{kept-step, issued-step, is_lost-append, count-step}
+use Rattle.ec_history.proofs.OfLaws.Numbers.{count, IsUpTo, issued-up_to, kept-up_to, kept-each, throughout-issued, covers-up_to, each-append}
 use Rattle.ec_judge.specs.Carried.{IsUncovered, IsUntouched}
 use Rattle.ec_base.proofs.Numbers.{itself}
 use Rattle.ec_base.proofs.Bools.{both, first as left, right, on as holds, is-true}
-use Rattle.ec_laws.proofs.BasesAlike.{each-map}
+use Rattle.ec_history.proofs.OfLaws.BasesAlike.{each-map}
 use Rattle.ec_base.proofs.Lists.{filter-swap}
 
 -- Lists.

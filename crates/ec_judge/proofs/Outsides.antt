@@ -13,7 +13,7 @@ use Rattle.ec_history.specs.History.{Op}
 use Rattle.ec_history.specs.Legal.{is_closed}
 use Rattle.ec_judge.specs.declared.carried.Kept.{Kept}
 use Rattle.ec_judge.specs.Carried.{op_of, ops_of}
-use Rattle.ec_outside.specs.Outside.{is_after}
+use Rattle.ec_pending.specs.OfOutside.Outside.{is_after}
 use Rattle.ec_judge.proofs.Loops.{back-more}
 use Rattle.ec_base.proofs.Bools.{and-none}
 

@@ -6,7 +6,7 @@ use Rattle.std.proofs.lemmas.List.{take_more, take_all}
 use Rattle.std.proofs.lemmas.List.Folds.{list_any-append}
 use Rattle.ec_volume.specs.Volume.{Images, images, formatted, after, Fits}
 use Rattle.ec_volume.specs.declared.image.Image.{Image}
-use Rattle.ec_overlay.specs.Shown.{shown}
+use Rattle.ec_pending.specs.OfOverlay.Shown.{shown}
 use Rattle.ec_history.specs.History.{Op, updates, is_one_of}
 use Rattle.ec_judge.specs.declared.carried.Kept.{Kept}
 use Rattle.ec_judge.specs.declared.carried.Firm.{Firm}

@@ -11,7 +11,7 @@ use Rattle.ec_volume.specs.Image.{is_gone}
 use Rattle.ec_volume.specs.Update.{operands, has_operand, member, fits}
 use Rattle.ec_volume.specs.Volume.{Images, images, after, Fits, WellFormed, formatted}
 use Rattle.ec_volume.specs.declared.update.Update.{Update}
-use Rattle.ec_overlay.specs.Shown.{shown}
+use Rattle.ec_pending.specs.OfOverlay.Shown.{shown}
 use Rattle.ec_plain.specs.Plain.{plain}
 use Rattle.ec_plain.specs.BoundedCalls.{is_bounded}
 use Rattle.ec_plain.specs.declared.call.Call.{Call}
@@ -24,9 +24,9 @@ use Rattle.ec_history.specs.declared.entry.Entry.{Entry}
 use Rattle.ec_history.specs.declared.entry.Entry.TheVariants as entry
 use Rattle.ec_history.specs.declared.rule.Rule.{Rule}
 use Rattle.ec_history.specs.declared.rule.Rule.TheVariants as rule
-use Rattle.ec_laws.proofs.Laws.{call-sound, call-fits}
-use Rattle.ec_laws.proofs.More.{kept-step, count-next}
-use Rattle.ec_laws.proofs.Numbers.{count, IsUpTo, issued-up_to, kept-up_to, each-append}
+use Rattle.ec_history.proofs.OfLaws.Laws.{call-sound, call-fits}
+use Rattle.ec_history.proofs.OfLaws.More.{kept-step, count-next}
+use Rattle.ec_history.proofs.OfLaws.Numbers.{count, IsUpTo, issued-up_to, kept-up_to, each-append}
 use Rattle.ec_judge.specs.declared.carried.Kept.{Kept}
 use Rattle.ec_judge.specs.declared.carried.Issuer.{Issuer}
 use Rattle.ec_judge.specs.declared.carried.Start.{Start}
@@ -36,12 +36,12 @@ use Rattle.ec_judge.proofs.Touched.{any-since, below-next, none-since}
 use Rattle.ec_judge.specs.Faults.{BreaksCall, BreaksLoss, AreKept, AreClosed, LeaveFitting}
 use Rattle.ec_pending.specs.declared.issue.Issue.{Issue}
 use Rattle.ec_pending.specs.declared.asked.Asked.{Asked}
-use Rattle.ec_owes.specs.Rules.{IsNumbered, KeepsRules, BreaksRule, due_of}
+use Rattle.ec_pending.specs.OfOwes.Rules.{IsNumbered, KeepsRules, BreaksRule, due_of}
 use Rattle.ec_judge.specs.Asks.{asked_on, asked_by_call}
 use Rattle.ec_judge.specs.Carried as Carried
 use Rattle.ec_judge.specs.Carried.{op_of, ops_of, issue_of, issues_in, is_among, is_start, count_of, owed_of, pending_of, is_covered, IsUpward, IsStart, IsFlagged, IsUncovered, IsUntouched, IsFirm, AreLaid, Carries, Known, touches_in, touched_next, is_touched, AreBelow, count_next, keeps_of, IsFitting, are_kept, are_uncovered, are_closed, BreaksMarks, KeepsMarks}
 use Rattle.ec_pending.specs.Pending.{numbers_in, is_in, is_asked, picked_out, rest, numbered, issues_of}
-use Rattle.ec_laws.proofs.Issues.{issue-sorted}
+use Rattle.ec_history.proofs.OfLaws.Issues.{issue-sorted}
 use Rattle.ec_judge.proofs.Numbers.{each-kept, only, unlost, kept-only, kept-unlost, new-uncovered, new-untouched}
 use Rattle.ec_judge.proofs.Flags.{flag-step, through-more, through-front, through-last, touched-one, covered-one}
 use Rattle.ec_judge.proofs.Asked.{asks-same, asked-same, issue-same}

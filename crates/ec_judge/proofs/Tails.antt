@@ -13,7 +13,7 @@ use Rattle.ec_base.specs.SortedLaws.{first, second}
 use Rattle.ec_volume.specs.Update.{member}
 use Rattle.ec_volume.specs.declared.update.Update.{Update}
 use Rattle.ec_order.specs.Order.{Holds, before}
-use Rattle.ec_chains.specs.ClosureLaws.{above-held}
+use Rattle.ec_log.specs.OfChains.ClosureLaws.{above-held}
 use Rattle.ec_history.specs.History.{Op, of_start, of_issue, is_one_of}
 use Rattle.ec_history.specs.Legal.{is_closed}
 use Rattle.ec_history.specs.declared.rule.Rule.{Rule}
@@ -22,7 +22,7 @@ use Rattle.ec_judge.specs.declared.carried.Kept.{Kept}
 use Rattle.ec_judge.proofs.Loops.{cut-at}
 use Rattle.ec_judge.specs.Carried.{Known, op_of, ops_of, is_among, is_touched, are_kept, are_uncovered, are_untouched, are_closed, KeepsMarks, BreaksMarks}
 use Rattle.ec_base.proofs.Bools.{on as holds, is-true}
-use Rattle.ec_numbers.proofs.Least.{IsUnder}
+use Rattle.ec_order.proofs.OfNumbers.Least.{IsUnder}
 
 -- None of the start's operations before one up to the least number is lost.
 

@@ -16,7 +16,7 @@ use Rattle.ec_history.specs.Legal.{leaves, is_op_of, is_closed, IsLegal, IsLegal
 use Rattle.ec_history.specs.declared.entry.Entry.{Entry}
 use Rattle.ec_history.specs.declared.rule.Rule.{Rule}
 use Rattle.ec_history.specs.declared.rule.Rule.TheVariants as rule
-use Rattle.ec_laws.specs.Bases.{is_bounded_entry}
+use Rattle.ec_history.specs.OfLaws.Bases.{is_bounded_entry}
 use Rattle.ec_judge.specs.Faults.{BreaksEntry}
 use Rattle.ec_pending.specs.Pending.{is_in, is_asked, rest, issues_of}
 use Rattle.ec_judge.specs.declared.carried.Kept.{Kept}
@@ -24,9 +24,9 @@ use Rattle.ec_pending.specs.declared.issue.Issue.{Issue}
 use Rattle.ec_judge.specs.declared.carried.Issuer.{Issuer}
 use Rattle.ec_judge.specs.declared.carried.Start.{Start}
 use Rattle.ec_judge.specs.declared.carried.Touches.{Touches}
-use Rattle.ec_objtable.specs.Slots.{held}
-use Rattle.ec_overlay.specs.Shown.{shown, has_own}
-use Rattle.ec_overlay.specs.declared.overlay.Overlay.{Overlay}
+use Rattle.ec_order.specs.OfObjtable.Slots.{held}
+use Rattle.ec_pending.specs.OfOverlay.Shown.{shown, has_own}
+use Rattle.ec_pending.specs.declared.overlay.overlay.Overlay.{Overlay}
 use Rattle.ec_judge.specs.declared.carried.Firm.{Firm}
 use Rattle.ec_judge.specs.declared.carried.Judge.{Judge}
 use Rattle.ec_pending.specs.declared.asked.Asked.{Asked}

@@ -1,10 +1,10 @@
 // What the judge carries from entry to entry.
 use crate::starts::Starts;
 use ec_base::{ClerkId, OpNo};
-use ec_objtable::ObjTable;
-use ec_overlay::Overlay;
-use ec_owes::Owes;
+use ec_order::objtable::ObjTable;
 use ec_pending::Deferred;
+use ec_pending::overlay::Overlay;
+use ec_pending::owes::Owes;
 use ec_volume::Update;
 use std::alloc::Global;
 

@@ -1,6 +1,6 @@
 // Whether entries make a legal history.
 ghost use Rattle.std.specs.Prelude.{◌≡◌, ◌<◌, ◌^◌, ℕ, IfOk, OnOk, IfErr};
-ghost use Rattle.ec_laws.specs.Bases.{AreAtLines};
+ghost use Rattle.ec_history.specs.OfLaws.Bases.{AreAtLines};
 ghost use Rattle.ec_history.specs.History.{Each, updates, kept, owed};
 ghost use Rattle.ec_history.specs.Legal.{IsLegal, from_formatted};
 ghost use Rattle.ec_judge.specs.Carried.{Carries, ops_of};
@@ -9,9 +9,9 @@ ghost use Rattle.ec_judge.specs.Fault.{IsEntryFault};
 use crate::carried::{Judge, Kept};
 use crate::fault::HistoryFault;
 use crate::judging::{Judging, judge_all};
+use ec_base::trace::Trace;
 use ec_base::{ClerkId, Duplicate, NoMemory, ObjId, OpNo};
 use ec_history::Entry;
-use ec_trace::Trace;
 use ec_volume::Update;
 use std::alloc::Global;
 

@@ -15,9 +15,9 @@ use crate::starts::Starts;
 use crate::{covers, losses, rebuilt, starts, tail, touches};
 use ec_base::{ClerkId, NoMemory, ObjId, OpNo};
 use ec_history::{Answer, Entry, Rule};
-use ec_numbers::Numbers;
-use ec_objtable::ObjTable;
-use ec_owes::broken_rule;
+use ec_order::numbers::Numbers;
+use ec_order::objtable::ObjTable;
+use ec_pending::owes::broken_rule;
 use ec_plain::{Call, Outcome, plain};
 use std::alloc::Global;
 

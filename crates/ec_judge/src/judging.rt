@@ -1,6 +1,6 @@
 // Judges a history piece by piece.
 ghost use Rattle.std.specs.Prelude.{◌≡◌, ◌<◌, ◌^◌, ◌++◌, [], ℕ, IfOk, OnOk, IfErr};
-ghost use Rattle.ec_laws.specs.Bases.{AreAtLines};
+ghost use Rattle.ec_history.specs.OfLaws.Bases.{AreAtLines};
 ghost use Rattle.ec_history.specs.History.{Each};
 ghost use Rattle.ec_history.specs.Legal.{IsLegal, from_formatted};
 ghost use Rattle.ec_judge.specs.Carried.{HasJudged};
@@ -9,8 +9,8 @@ ghost use Rattle.ec_judge.specs.Fault.{IsEntryFault};
 use crate::carried::Judge;
 use crate::fault::HistoryFault;
 use ec_base::NoMemory;
+use ec_base::trace::Trace;
 use ec_history::Entry;
-use ec_trace::Trace;
 use std::alloc::Global;
 use std::marker::Model;
 

@@ -12,11 +12,11 @@ use crate::carried::{Kept, Start, Touches};
 use crate::touches::is_touched;
 use ec_base::{ClerkId, NoMemory, ObjId, OpNo};
 use ec_history::Rule;
-use ec_numbers::Numbers;
-use ec_objtable::ObjTable;
-use ec_outside::Outside;
-use ec_owes::Owes;
+use ec_order::numbers::Numbers;
+use ec_order::objtable::ObjTable;
 use ec_pending::Deferred;
+use ec_pending::outside::Outside;
+use ec_pending::owes::Owes;
 use ec_volume::operands;
 use std::alloc::Global;
 

@@ -3,17 +3,17 @@ ghost use Rattle.std.specs.Prelude.{◌≡◌, ◌≤◌, ◌<◌, ◌||◌, ℕ
 ghost use Rattle.std.specs.List.{filter, list_any, list_all};
 ghost use Rattle.ec_volume.specs.Update.{member, operands, is_sound, first_unfit};
 ghost use Rattle.ec_volume.specs.Volume.{images, formatted, after, Fits};
-ghost use Rattle.ec_overlay.specs.Shown.{shown, has_own};
-ghost use Rattle.ec_overlay.specs.declared.overlay.Overlay.{Overlay as Laid};
+ghost use Rattle.ec_pending.specs.OfOverlay.Shown.{shown, has_own};
+ghost use Rattle.ec_pending.specs.declared.overlay.overlay.Overlay.{Overlay as Laid};
 ghost use Rattle.ec_history.specs.History.{updates, is_one_of};
 ghost use Rattle.ec_judge.specs.Carried.{ops_of, is_among, is_noted, AreLaid, AreNoted, IsFrontKept, IsFrontAt, IsWholeBeside, IsFirm, IsBehind, IsRestored, IsLeft};
 
 use crate::carried::{Firm, Kept};
 use crate::losses::is_among;
 use ec_base::{ClerkId, NoMemory, ObjId};
-use ec_numbers::Numbers;
-use ec_objmap::ObjMap;
-use ec_overlay::Overlay;
+use ec_order::numbers::Numbers;
+use ec_order::objmap::ObjMap;
+use ec_pending::overlay::Overlay;
 use ec_volume::{ApplyFault, Update, Volume, operands};
 use std::alloc::Global;
 

@@ -2,22 +2,22 @@
 ghost use Rattle.std.specs.Prelude.{◌≡◌, ◌<◌, ◌≤◌, ◌++◌, ◌∷◌, [], ℕ, false, not, length, take, slice_index_or, slice_set, vec_len, vec_capacity, IfOk, OnOk, MatchOption};
 ghost use Rattle.std.specs.List.{filter, find, list_any, position_or_len};
 ghost use Rattle.ec_volume.specs.Volume.{after};
-ghost use Rattle.ec_overlay.specs.Shown.{shown};
+ghost use Rattle.ec_pending.specs.OfOverlay.Shown.{shown};
 ghost use Rattle.ec_history.specs.History.{is_one_of, meets, pairs_of, updates};
 ghost use Rattle.ec_judge.specs.Carried.{is_start, count_of, owed_of, pending_of, count_next, keeps_of, ops_of, is_among, AreLaid, IsFitting, IsNoted, IsOwing, KeepsMarks, BreaksMarks, touches_in};
 ghost use Rattle.ec_judge.specs.Index.{SamePlaces};
 ghost use Rattle.ec_pending.specs.Pending.{is_asked, rest, issues_of, numbers_in};
-ghost use Rattle.ec_owes.specs.Rules.{IsNumbered};
+ghost use Rattle.ec_pending.specs.OfOwes.Rules.{IsNumbered};
 ghost use Rattle.ec_judge.specs.declared.carried.Start.{Start as StartOf};
 
 use crate::carried::{Issuer, Kept, Start, Touches};
 use crate::losses;
 use ec_base::{ClerkId, Duplicate, NoMemory, ObjId, OpNo};
 use ec_history::Rule;
-use ec_numbers::{Numbers, StartIndex, find_start, note_start};
-use ec_objtable::ObjTable;
-use ec_overlay::Overlay;
-use ec_owes::Owes;
+use ec_order::numbers::{Numbers, StartIndex, find_start, note_start};
+use ec_order::objtable::ObjTable;
+use ec_pending::overlay::Overlay;
+use ec_pending::owes::Owes;
 use ec_pending::{Asked, Deferred};
 use ec_plain::{Call, Outcome};
 use ec_volume::Update;
@@ -37,7 +37,7 @@ impl Model for Starts {
     ghost use Rattle.std.specs.Prelude.{List};
     ghost use Rattle.ec_judge.specs.declared.carried.Start.{Start};
     ghost use Rattle.ec_judge.specs.Index.{IsStartIndex};
-    ghost use Rattle.ec_numbers.specs.Starts.{indexed};
+    ghost use Rattle.ec_order.specs.OfNumbers.Starts.{indexed};
 
     ghost Value = { List Start };
 

@@ -8,7 +8,7 @@ ghost use Rattle.ec_judge.specs.Carried.{op_of, ops_of, is_among};
 
 use crate::carried::Kept;
 use ec_base::ClerkId;
-use ec_numbers::Numbers;
+use ec_order::numbers::Numbers;
 
 /// An index before which none of the start's kept operations has one of these numbers. A walk from
 /// the last one on finds it.

@@ -6,7 +6,7 @@ ghost use Rattle.ec_judge.specs.Carried.{touched_next, touches_in, is_since, is_
 
 use crate::carried::{Kept, Touches};
 use ec_base::{ClerkId, NoMemory, ObjId};
-use ec_objtable::ObjTable;
+use ec_order::objtable::ObjTable;
 use ec_volume::operands;
 use std::alloc::Global;
 

@@ -12,15 +12,15 @@ use Rattle.ec_cache.specs.Cache.{all_used, used}
 use Rattle.ec_cache.specs.declared.state.CacheState.{CacheState}
 use Rattle.ec_cache.specs.declared.state.Held.{Held}
 use Rattle.ec_log.specs.declared.state.Asked.{Asked}
-use Rattle.ec_resolve.specs.declared.verdict.Verdict.{Verdict}
-use Rattle.ec_resolve.specs.declared.verdict.Verdict.TheVariants.{Need, Lost, NeedIds, Done}
+use Rattle.ec_cache.specs.declared.resolve.verdict.Verdict.{Verdict}
+use Rattle.ec_cache.specs.declared.resolve.verdict.Verdict.TheVariants.{Need, Lost, NeedIds, Done}
 use Rattle.ec_protocol.specs.Clerk.{Answered, Doing, Tried, Waits, add_call, await, awaited, begin, doing, evict, new_clerk, settle_outcome, try, try_rounds, try_verdict, verdict, with_clerk}
 use Rattle.ec_protocol.specs.World.{is_answer_to}
 use Rattle.ec_protocol.specs.declared.clerk.Clerk.{Clerk}
 use Rattle.ec_protocol.specs.declared.clerk.Out.TheVariants as out
 use Rattle.ec_protocol.specs.declared.clerk.Waiting.{Waiting}
 use Rattle.ec_coherence.specs.Answers.{Gives}
-use Rattle.ec_clerk_steps.proofs.Sessionless.{ShowsNothing, sessionless}
+use Rattle.ec_lawful.proofs.OfClerkSteps.Sessionless.{ShowsNothing, sessionless}
 
 -- nothing held is used
 pub used-none : (xs : List ℕ) (k : CacheState) → k.held ≡ [] → all_used xs k ≡ k

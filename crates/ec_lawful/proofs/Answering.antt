@@ -9,13 +9,13 @@ use Rattle.ec_protocol.specs.declared.clerk.Waiting.{Waiting}
 use Rattle.ec_coherence.specs.System.{System, Ghost}
 use Rattle.ec_coherence.specs.Steps.{doing_in}
 use Rattle.ec_coherence.specs.CommitLaws.{AllAgree}
-use Rattle.ec_clerk_steps.specs.CallLaws.{Passes}
-use Rattle.ec_clerk_steps.specs.Waits.{HasLine}
+use Rattle.ec_lawful.specs.OfClerkSteps.CallLaws.{Passes}
+use Rattle.ec_lawful.specs.OfClerkSteps.Waits.{HasLine}
 use Rattle.ec_coherence.specs.Answers.{Gives}
-use Rattle.ec_clerk_steps.specs.Answering.{Suits, answered_clerk}
-use Rattle.ec_clerk_steps.specs.Trying.{IsTrying}
-use Rattle.ec_clerk_steps.proofs.Single as single
-use Rattle.ec_clerk_steps.proofs.Singles.{singles}
+use Rattle.ec_lawful.specs.OfClerkSteps.Answering.{Suits, answered_clerk}
+use Rattle.ec_lawful.specs.OfClerkSteps.Trying.{IsTrying}
+use Rattle.ec_lawful.proofs.OfClerkSteps.Single as single
+use Rattle.ec_lawful.proofs.OfClerkSteps.Singles.{singles}
 use Rattle.ec_lawful.proofs.FreshAnswering.{answer-fresh-step}
 use Rattle.ec_lawful.specs.Whole.{ShowsAll}
 use Rattle.ec_lawful.proofs.Telling.{answer-step-tells}

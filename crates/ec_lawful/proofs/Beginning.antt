@@ -11,23 +11,23 @@ use Rattle.ec_coherence.proofs.Lists.{each-turn}
 use Rattle.ec_coherence.specs.CommitLaws.{AllAgree}
 use Rattle.ec_coherence.proofs.Doings.{begins-stand}
 use Rattle.ec_coherence.specs.StandLaws.{ClerkStands, IsUnderWay}
-use Rattle.ec_clerk_steps.specs.Names.{NamesAgree}
-use Rattle.ec_clerk_steps.specs.Zeros.{ZerosAgree}
-use Rattle.ec_clerk_steps.specs.Frees.{FreesAgree}
-use Rattle.ec_clerk_steps.specs.Cuts.{CutsAgree}
-use Rattle.ec_clerk_steps.specs.Waits.{HasLine, does_wait}
-use Rattle.ec_clerk_steps.proofs.Quiet.{begins-step, quiet-calls, quiet-lines}
-use Rattle.ec_clerk_steps.proofs.Quiets.{quiet-pushed}
-use Rattle.ec_clerk_steps.proofs.Calm.{are-calm}
-use Rattle.ec_clerk_steps.proofs.Going.{calm-keeps}
-use Rattle.ec_clerk_steps.proofs.OutsideChanges.{outside-all}
-use Rattle.ec_clerk_steps.proofs.Calling as calling
-use Rattle.ec_clerk_steps.proofs.Calling.{order-stays}
-use Rattle.ec_clerk_steps.proofs.Pushes.{keeps-push}
-use Rattle.ec_clerk_steps.proofs.NamesChanging.{clerks-keep}
-use Rattle.ec_clerk_steps.proofs.FreesStored.{stills-keep}
-use Rattle.ec_clerk_steps.proofs.ZerosBehind.{steps-keep}
-use Rattle.ec_clerk_steps.proofs.Parts.{have-no-zero}
+use Rattle.ec_lawful.specs.OfClerkSteps.Names.{NamesAgree}
+use Rattle.ec_lawful.specs.OfClerkSteps.Zeros.{ZerosAgree}
+use Rattle.ec_lawful.specs.OfClerkSteps.Frees.{FreesAgree}
+use Rattle.ec_lawful.specs.OfClerkSteps.Cuts.{CutsAgree}
+use Rattle.ec_lawful.specs.OfClerkSteps.Waits.{HasLine, does_wait}
+use Rattle.ec_lawful.proofs.OfClerkSteps.Quiet.{begins-step, quiet-calls, quiet-lines}
+use Rattle.ec_lawful.proofs.OfClerkSteps.Quiets.{quiet-pushed}
+use Rattle.ec_lawful.proofs.OfClerkSteps.Calm.{are-calm}
+use Rattle.ec_lawful.proofs.OfClerkSteps.Going.{calm-keeps}
+use Rattle.ec_lawful.proofs.OfClerkSteps.OutsideChanges.{outside-all}
+use Rattle.ec_lawful.proofs.OfClerkSteps.Calling as calling
+use Rattle.ec_lawful.proofs.OfClerkSteps.Calling.{order-stays}
+use Rattle.ec_lawful.proofs.OfClerkSteps.Pushes.{keeps-push}
+use Rattle.ec_lawful.proofs.OfClerkSteps.NamesChanging.{clerks-keep}
+use Rattle.ec_lawful.proofs.OfClerkSteps.FreesStored.{stills-keep}
+use Rattle.ec_lawful.proofs.OfClerkSteps.ZerosBehind.{steps-keep}
+use Rattle.ec_lawful.proofs.OfClerkSteps.Parts.{have-no-zero}
 use Rattle.ec_lawful.specs.Whole.{ShowsAll, Whole}
 use Rattle.ec_lawful.specs.SettleLaws.{IsLined}
 use Rattle.ec_lawful.proofs.Carrying.{no-zero, same-shows, still-lined}

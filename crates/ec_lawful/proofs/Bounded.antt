@@ -8,7 +8,7 @@ use Rattle.ec_history.specs.History.{History}
 use Rattle.ec_history.specs.Placing.{EachLine, call_entry, is_call_of, is_end_of, is_running, late, line_entries, owner, place, place_from, watch}
 use Rattle.ec_history.specs.declared.shown.Shown.{Shown}
 use Rattle.ec_history.specs.declared.shown.Shown.TheVariants as show
-use Rattle.ec_laws.specs.Bases.{is_bounded_entry}
+use Rattle.ec_history.specs.OfLaws.Bases.{is_bounded_entry}
 use Rattle.ec_lawful.specs.Calls.{IsOf}
 use Rattle.ec_base.proofs.Bools.{left as and_first, and-both as and_both, right as and_next}
 

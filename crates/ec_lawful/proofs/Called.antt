@@ -16,17 +16,17 @@ use Rattle.ec_coherence.proofs.Tables.{differs}
 use Rattle.ec_coherence.specs.CommitLaws.{AllAgree}
 use Rattle.ec_coherence.specs.StandLaws.{ClerkStands, SessionGoesOn, IsUnderWay, lined}
 use Rattle.ec_coherence.proofs.Rests.{rests-stand}
-use Rattle.ec_clerk_steps.specs.Cuts.{CutKnows, CutsAgree}
-use Rattle.ec_clerk_steps.proofs.OutsideChanges.{outside-all}
+use Rattle.ec_lawful.specs.OfClerkSteps.Cuts.{CutKnows, CutsAgree}
+use Rattle.ec_lawful.proofs.OfClerkSteps.OutsideChanges.{outside-all}
 use Rattle.ec_lawful.specs.Steps.{LineIsNew}
 use Rattle.ec_lawful.specs.Ties.{called, waiting}
-use Rattle.ec_clerk_steps.specs.Calls.{CallsAgree}
-use Rattle.ec_clerk_steps.specs.Waits.{AreAtRest, AreInTurn, HasLine}
-use Rattle.ec_clerk_steps.specs.CallLaws.{IsNewLine}
-use Rattle.ec_clerk_steps.proofs.Begin.{begun-call, begun-calls, begun-lines, begun-turn, fresh-lines}
-use Rattle.ec_clerk_steps.proofs.Lined.{lined-all, lined-calls, untold-still}
-use Rattle.ec_clerk_steps.proofs.Quiet.{split-start}
-use Rattle.ec_clerk_steps.proofs.Shown.{waits-stand}
+use Rattle.ec_lawful.specs.OfClerkSteps.Calls.{CallsAgree}
+use Rattle.ec_lawful.specs.OfClerkSteps.Waits.{AreAtRest, AreInTurn, HasLine}
+use Rattle.ec_lawful.specs.OfClerkSteps.CallLaws.{IsNewLine}
+use Rattle.ec_lawful.proofs.OfClerkSteps.Begin.{begun-call, begun-calls, begun-lines, begun-turn, fresh-lines}
+use Rattle.ec_lawful.proofs.OfClerkSteps.Lined.{lined-all, lined-calls, untold-still}
+use Rattle.ec_lawful.proofs.OfClerkSteps.Quiet.{split-start}
+use Rattle.ec_lawful.proofs.OfClerkSteps.Shown.{waits-stand}
 use Rattle.ec_lawful.specs.BeginLaws.{HasBegun}
 use Rattle.ec_base.proofs.Numbers.{other-number}
 

@@ -8,20 +8,20 @@ use Rattle.ec_coherence.specs.Steps.{doing_in}
 use Rattle.ec_coherence.proofs.ClerkIn.{start-same}
 use Rattle.ec_coherence.proofs.Tables.{same_some}
 use Rattle.ec_coherence.specs.StandLaws.{IsUnderWay}
-use Rattle.ec_clerk_steps.specs.CallLaws.{IsQuiet}
-use Rattle.ec_clerk_steps.specs.Waits.{AreInTurn, HasLine}
-use Rattle.ec_clerk_steps.proofs.Quiet.{quiet-calls, quiet-lines}
-use Rattle.ec_clerk_steps.specs.Cuts.{CutsAgree}
-use Rattle.ec_clerk_steps.specs.DoingLaws.{IsInHand}
+use Rattle.ec_lawful.specs.OfClerkSteps.CallLaws.{IsQuiet}
+use Rattle.ec_lawful.specs.OfClerkSteps.Waits.{AreInTurn, HasLine}
+use Rattle.ec_lawful.proofs.OfClerkSteps.Quiet.{quiet-calls, quiet-lines}
+use Rattle.ec_lawful.specs.OfClerkSteps.Cuts.{CutsAgree}
+use Rattle.ec_lawful.specs.OfClerkSteps.DoingLaws.{IsInHand}
 use Rattle.ec_coherence.specs.CommitLaws.{AllAgree}
-use Rattle.ec_clerk_steps.specs.Moves.{IsStill}
+use Rattle.ec_lawful.specs.OfClerkSteps.Moves.{IsStill}
 use Rattle.ec_lawful.specs.Fresh.{FreshAgrees}
 use Rattle.ec_lawful.proofs.FreshSteps.{step-fresh}
 use Rattle.ec_lawful.specs.Whole.{ShowsAll}
-use Rattle.ec_clerk_steps.specs.Frees.{FreesAgree}
-use Rattle.ec_clerk_steps.specs.Trying.{IsTrying}
-use Rattle.ec_clerk_steps.specs.Zeros.{HasNoZero}
-use Rattle.ec_clerk_steps.proofs.ZerosBehind.{steps-keep}
+use Rattle.ec_lawful.specs.OfClerkSteps.Frees.{FreesAgree}
+use Rattle.ec_lawful.specs.OfClerkSteps.Trying.{IsTrying}
+use Rattle.ec_lawful.specs.OfClerkSteps.Zeros.{HasNoZero}
+use Rattle.ec_lawful.proofs.OfClerkSteps.ZerosBehind.{steps-keep}
 use Rattle.ec_lawful.specs.SettleLaws.{IsLined}
 use Rattle.ec_base.proofs.Options.{none_some}
 

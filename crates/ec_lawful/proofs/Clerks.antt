@@ -9,9 +9,9 @@ use Rattle.ec_coherence.specs.System.{System, Ghost}
 use Rattle.ec_coherence.specs.Steps.{doing_in, sends}
 use Rattle.ec_coherence.proofs.Lists.{each-more}
 use Rattle.ec_coherence.proofs.Needs.{each-of}
-use Rattle.ec_clerk_steps.specs.Frees.{IsFull}
-use Rattle.ec_clerk_steps.specs.Fulls.{IsFullAt}
-use Rattle.ec_clerk_steps.proofs.Sent.{own-full, resend-own}
+use Rattle.ec_lawful.specs.OfClerkSteps.Frees.{IsFull}
+use Rattle.ec_lawful.specs.OfClerkSteps.Fulls.{IsFullAt}
+use Rattle.ec_lawful.proofs.OfClerkSteps.Sent.{own-full, resend-own}
 use Rattle.ec_lawful.specs.Steps.{StepIsDone}
 use Rattle.ec_lawful.specs.Whole.{ShowsAll, Whole}
 use Rattle.ec_lawful.proofs.Runs.{ClerksKeep}

@@ -19,18 +19,18 @@ use Rattle.ec_coherence.specs.System.{System, Ghost, with_start}
 use Rattle.ec_coherence.specs.Events.{EventsAgree}
 use Rattle.ec_coherence.specs.Steps.{call_of, calls_after, doing_in, sends}
 use Rattle.ec_coherence.specs.ChangeLaws.{Calls}
-use Rattle.ec_clerk_steps.specs.Calls.{CallsAgree}
-use Rattle.ec_clerk_steps.specs.Waits.{HasLine}
-use Rattle.ec_clerk_steps.proofs.Told.{told-calls}
-use Rattle.ec_clerk_steps.specs.Orderly.{IsOrderly}
-use Rattle.ec_clerk_steps.proofs.Calling.{order-stays}
-use Rattle.ec_clerk_steps.proofs.NamesChanging.{ended-keeps}
-use Rattle.ec_clerk_steps.specs.Trying.{IsTrying}
-use Rattle.ec_clerk_steps.proofs.ZerosBehind.{steps-keep}
-use Rattle.ec_clerk_steps.proofs.Parts.{have-no-zero}
-use Rattle.ec_clerk_steps.proofs.FreesStored.{ended-keeps-frees}
-use Rattle.ec_clerk_steps.specs.JoinLaws.{IsGoing, tell_loss}
-use Rattle.ec_clerk_steps.proofs.Wholes as wholes
+use Rattle.ec_lawful.specs.OfClerkSteps.Calls.{CallsAgree}
+use Rattle.ec_lawful.specs.OfClerkSteps.Waits.{HasLine}
+use Rattle.ec_lawful.proofs.OfClerkSteps.Told.{told-calls}
+use Rattle.ec_lawful.specs.OfClerkSteps.Orderly.{IsOrderly}
+use Rattle.ec_lawful.proofs.OfClerkSteps.Calling.{order-stays}
+use Rattle.ec_lawful.proofs.OfClerkSteps.NamesChanging.{ended-keeps}
+use Rattle.ec_lawful.specs.OfClerkSteps.Trying.{IsTrying}
+use Rattle.ec_lawful.proofs.OfClerkSteps.ZerosBehind.{steps-keep}
+use Rattle.ec_lawful.proofs.OfClerkSteps.Parts.{have-no-zero}
+use Rattle.ec_lawful.proofs.OfClerkSteps.FreesStored.{ended-keeps-frees}
+use Rattle.ec_lawful.specs.OfClerkSteps.JoinLaws.{IsGoing, tell_loss}
+use Rattle.ec_lawful.proofs.OfClerkSteps.Wholes as wholes
 use Rattle.ec_coherence.specs.CommitLaws.{AllAgree}
 use Rattle.ec_coherence.specs.StandLaws.{ClerkStands}
 use Rattle.ec_lawful.proofs.FreshSteps.{step-fresh}
@@ -38,7 +38,7 @@ use Rattle.ec_lawful.specs.Whole.{Whole}
 use Rattle.ec_lawful.proofs.Telling.{line-step-tells}
 use Rattle.ec_lawful.specs.SettleLaws.{IsLined}
 use Rattle.ec_lawful.proofs.Same.{first, lined-so, no-zero}
-use Rattle.ec_laws.proofs.BasesAlike.{each-map}
+use Rattle.ec_history.proofs.OfLaws.BasesAlike.{each-map}
 
 module _ (g : System) (whole : Whole g) (c b : ℕ) (k : Clerk) (runs : g.running c ≡ Some b) (at-start : g.clerks c b ≡ Some k) (s : ℕ) (within : k.session ≡ Some s) (low mask : ℕ) (sent : Contains g.pool (c, Ended s low mask)) where
   abbrev w : Window

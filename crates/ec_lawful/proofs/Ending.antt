@@ -12,16 +12,16 @@ use Rattle.ec_coherence.specs.System.{System, Ghost, clerk_in, seen, seen_ops}
 use Rattle.ec_coherence.specs.Steps.{doing_in, out_lines, sends}
 use Rattle.ec_coherence.proofs.Lists.{each-both}
 use Rattle.ec_coherence.proofs.Tables.{same_some}
-use Rattle.ec_clerk_steps.specs.Waits.{HasLine, NoneReady, does_wait}
-use Rattle.ec_clerk_steps.proofs.RestsBehind.{rests-behind}
-use Rattle.ec_clerk_steps.proofs.Resting.{evicts-rest}
-use Rattle.ec_clerk_steps.proofs.Going.{steps-keep-counts}
+use Rattle.ec_lawful.specs.OfClerkSteps.Waits.{HasLine, NoneReady, does_wait}
+use Rattle.ec_lawful.proofs.OfClerkSteps.RestsBehind.{rests-behind}
+use Rattle.ec_lawful.proofs.OfClerkSteps.Resting.{evicts-rest}
+use Rattle.ec_lawful.proofs.OfClerkSteps.Going.{steps-keep-counts}
 use Rattle.ec_lawful.proofs.From.{doubts-stay}
-use Rattle.ec_clerk_steps.proofs.Calling.{order-agrees}
-use Rattle.ec_clerk_steps.proofs.Moving as moving
-use Rattle.ec_clerk_steps.proofs.Storing.{same-image}
-use Rattle.ec_clerk_steps.specs.Frees.{FullsAgree}
-use Rattle.ec_clerk_steps.specs.Trying.{IsTrying}
+use Rattle.ec_lawful.proofs.OfClerkSteps.Calling.{order-agrees}
+use Rattle.ec_lawful.proofs.OfClerkSteps.Moving as moving
+use Rattle.ec_lawful.proofs.OfClerkSteps.Storing.{same-image}
+use Rattle.ec_lawful.specs.OfClerkSteps.Frees.{FullsAgree}
+use Rattle.ec_lawful.specs.OfClerkSteps.Trying.{IsTrying}
 use Rattle.std.proofs.lemmas.List.Elements.{Contains-append_left}
 use Rattle.ec_lawful.specs.Whole.{Whole}
 use Rattle.ec_lawful.specs.SettleLaws.{Beside, IsLined}

@@ -6,11 +6,11 @@ use Rattle.ec_history.specs.Legal.{IsLegal}
 use Rattle.ec_history.specs.Placing.{place}
 use Rattle.ec_history.specs.declared.entry.Entry.{Entry}
 use Rattle.ec_history.specs.declared.shown.Shown.{Shown}
-use Rattle.ec_laws.proofs.Places.{places-within, places-distinct}
-use Rattle.ec_laws.specs.Bases.{AreAtLines, IsBase, LeaveWellFormed, is_bounded_entry}
-use Rattle.ec_laws.proofs.KeptFormed.{kept-formed, kept-held}
-use Rattle.ec_laws.proofs.Laws.{kept-reached, call-sound, call-fits}
-use Rattle.ec_laws.proofs.Keeping.{throughout, placed}
+use Rattle.ec_history.proofs.OfLaws.Places.{places-within, places-distinct}
+use Rattle.ec_history.specs.OfLaws.Bases.{AreAtLines, IsBase, LeaveWellFormed, is_bounded_entry}
+use Rattle.ec_history.proofs.OfLaws.KeptFormed.{kept-formed, kept-held}
+use Rattle.ec_history.proofs.OfLaws.Laws.{kept-reached, call-sound, call-fits}
+use Rattle.ec_history.proofs.OfLaws.Keeping.{throughout, placed}
 use Rattle.ec_coherence.proofs.Tables.{each-map}
 use Rattle.ec_lawful.specs.Coherent.{AreFitting, IsFitting}
 

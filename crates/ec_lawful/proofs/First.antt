@@ -20,18 +20,18 @@ use Rattle.ec_coherence.specs.Steps.{call_of, doing_in}
 use Rattle.ec_coherence.proofs.ClerkIn.{start-same}
 use Rattle.ec_coherence.specs.CommitLaws.{AllAgree}
 use Rattle.ec_coherence.specs.StandLaws.{ClerkStands, SessionGoesOn, lined}
-use Rattle.ec_clerk_steps.specs.Counts.{CountsAgree}
-use Rattle.ec_clerk_steps.specs.Cuts.{CutsAgree}
-use Rattle.ec_clerk_steps.specs.JoinLaws.{started}
-use Rattle.ec_clerk_steps.proofs.Begins.{fresh-stands, start-stands}
-use Rattle.ec_clerk_steps.proofs.OutsideChanges.{outside-all, outside-cuts}
+use Rattle.ec_lawful.specs.OfClerkSteps.Counts.{CountsAgree}
+use Rattle.ec_lawful.specs.OfClerkSteps.Cuts.{CutsAgree}
+use Rattle.ec_lawful.specs.OfClerkSteps.JoinLaws.{started}
+use Rattle.ec_lawful.proofs.OfClerkSteps.Begins.{fresh-stands, start-stands}
+use Rattle.ec_lawful.proofs.OfClerkSteps.OutsideChanges.{outside-all, outside-cuts}
 use Rattle.ec_lawful.specs.Steps.{LineIsNew}
-use Rattle.ec_clerk_steps.specs.Calls.{CallsAgree}
-use Rattle.ec_clerk_steps.specs.CallLaws.{IsNewLine}
-use Rattle.ec_clerk_steps.proofs.Begin.{begun-call, begun-calls, fresh-lines}
-use Rattle.ec_clerk_steps.proofs.Lined.{lined-all, lined-calls}
-use Rattle.ec_clerk_steps.proofs.Quiet.{split-start}
-use Rattle.ec_clerk_steps.proofs.Told.{up-calls}
+use Rattle.ec_lawful.specs.OfClerkSteps.Calls.{CallsAgree}
+use Rattle.ec_lawful.specs.OfClerkSteps.CallLaws.{IsNewLine}
+use Rattle.ec_lawful.proofs.OfClerkSteps.Begin.{begun-call, begun-calls, fresh-lines}
+use Rattle.ec_lawful.proofs.OfClerkSteps.Lined.{lined-all, lined-calls}
+use Rattle.ec_lawful.proofs.OfClerkSteps.Quiet.{split-start}
+use Rattle.ec_lawful.proofs.OfClerkSteps.Told.{up-calls}
 use Rattle.ec_lawful.specs.BeginLaws.{HasBegun, first_call}
 use Rattle.ec_lawful.proofs.Called.{new-line}
 use Rattle.ec_base.proofs.Numbers.{same-self as same}

@@ -11,10 +11,10 @@ use Rattle.ec_history.specs.Legal.{IsLegal}
 use Rattle.ec_history.specs.Placing.{MayFollow, answered, begun, may_show, shows, watch}
 use Rattle.ec_history.specs.declared.entry.Answer.{Answer}
 use Rattle.ec_history.specs.declared.shown.Shown.TheVariants as show
-use Rattle.ec_laws.proofs.More.{watch-step}
-use Rattle.ec_laws.proofs.Numbers.{count}
-use Rattle.ec_resolve.specs.declared.verdict.Verdict.{Verdict}
-use Rattle.ec_resolve.specs.declared.verdict.Verdict.TheVariants.{Need, Lost, NeedIds, Done}
+use Rattle.ec_history.proofs.OfLaws.More.{watch-step}
+use Rattle.ec_history.proofs.OfLaws.Numbers.{count}
+use Rattle.ec_cache.specs.declared.resolve.verdict.Verdict.{Verdict}
+use Rattle.ec_cache.specs.declared.resolve.verdict.Verdict.TheVariants.{Need, Lost, NeedIds, Done}
 use Rattle.ec_protocol.specs.Clerk.{add_call, begin, new_clerk, verdict}
 use Rattle.ec_protocol.specs.World.{is_answer_to}
 use Rattle.ec_protocol.specs.declared.clerk.Clerk.{Clerk}
@@ -30,30 +30,30 @@ use Rattle.ec_coherence.specs.Answers.{Gives, answered_ghost, based, fresh_of, o
 use Rattle.ec_coherence.specs.Comes.{after_answer, entry_next, ops_next}
 use Rattle.ec_coherence.proofs.Answering.{alike, new_fresh, old_fresh}
 use Rattle.ec_coherence.proofs.Rebased.{legal-same}
-use Rattle.ec_clerk_steps.specs.Counts.{CountsAgree}
-use Rattle.ec_clerk_steps.specs.Cuts.{CutsAgree}
-use Rattle.ec_clerk_steps.specs.JoinLaws.{IsFresh, started}
-use Rattle.ec_clerk_steps.proofs.Begins.{fresh-stands}
-use Rattle.ec_clerk_steps.proofs.Going.{plain-keeps}
-use Rattle.ec_clerk_steps.proofs.OutsideChanges as outside
+use Rattle.ec_lawful.specs.OfClerkSteps.Counts.{CountsAgree}
+use Rattle.ec_lawful.specs.OfClerkSteps.Cuts.{CutsAgree}
+use Rattle.ec_lawful.specs.OfClerkSteps.JoinLaws.{IsFresh, started}
+use Rattle.ec_lawful.proofs.OfClerkSteps.Begins.{fresh-stands}
+use Rattle.ec_lawful.proofs.OfClerkSteps.Going.{plain-keeps}
+use Rattle.ec_lawful.proofs.OfClerkSteps.OutsideChanges as outside
 use Rattle.ec_lawful.specs.Steps.{LineIsNew}
-use Rattle.ec_clerk_steps.specs.Answering.{Suits, answered_clerk, answering, done_clerk}
-use Rattle.ec_clerk_steps.specs.Zeros.{HasNoZero, ZerosAgree}
-use Rattle.ec_clerk_steps.proofs.Without.{without-answers}
-use Rattle.ec_clerk_steps.specs.Calls.{CallsAgree}
-use Rattle.ec_clerk_steps.specs.Waits.{AreAtRest, HasLine, IsAtRest, does_wait}
-use Rattle.ec_clerk_steps.specs.CallLaws.{with_change}
-use Rattle.ec_clerk_steps.proofs.Begin.{call-put, fresh-lines}
-use Rattle.ec_clerk_steps.proofs.RestsBehind.{rests-behind}
-use Rattle.ec_clerk_steps.proofs.CallsLeft.{left-calls}
-use Rattle.ec_clerk_steps.proofs.Quiet.{split-start}
+use Rattle.ec_lawful.specs.OfClerkSteps.Answering.{Suits, answered_clerk, answering, done_clerk}
+use Rattle.ec_lawful.specs.OfClerkSteps.Zeros.{HasNoZero, ZerosAgree}
+use Rattle.ec_lawful.proofs.OfClerkSteps.Without.{without-answers}
+use Rattle.ec_lawful.specs.OfClerkSteps.Calls.{CallsAgree}
+use Rattle.ec_lawful.specs.OfClerkSteps.Waits.{AreAtRest, HasLine, IsAtRest, does_wait}
+use Rattle.ec_lawful.specs.OfClerkSteps.CallLaws.{with_change}
+use Rattle.ec_lawful.proofs.OfClerkSteps.Begin.{call-put, fresh-lines}
+use Rattle.ec_lawful.proofs.OfClerkSteps.RestsBehind.{rests-behind}
+use Rattle.ec_lawful.proofs.OfClerkSteps.CallsLeft.{left-calls}
+use Rattle.ec_lawful.proofs.OfClerkSteps.Quiet.{split-start}
 use Rattle.ec_lawful.specs.BeginLaws.{answered_start, behind_first, first_call, first_ghost}
 use Rattle.ec_lawful.proofs.Alone.{alone, used-none}
 use Rattle.ec_lawful.proofs.First.{fresh, fresh-calls, fresh-events, own-call}
 use Rattle.ec_lawful.proofs.Nothing.{nothing-covered}
 use Rattle.ec_base.proofs.Numbers.{same-self as same, equal}
 use Rattle.ec_base.proofs.Options.{none_some}
-use Rattle.ec_laws.proofs.BasesAlike.{each-map}
+use Rattle.ec_history.proofs.OfLaws.BasesAlike.{each-map}
 
 -- one start twice
 twice : (c b : ℕ) (k now : Clerk) (f : ℕ → ℕ → Option Clerk) → with_start c b now (with_start c b k f) ≡ with_start c b now f

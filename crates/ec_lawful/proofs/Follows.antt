@@ -13,8 +13,8 @@ use Rattle.ec_coherence.proofs.Lists.{each-fewer}
 use Rattle.ec_coherence.proofs.Tables.{same_some}
 use Rattle.ec_coherence.proofs.OpenSlots.{at-open}
 use Rattle.ec_coherence.specs.CommitLaws.{AllAgree}
-use Rattle.ec_clerk_steps.specs.Frames.{RecordMakes}
-use Rattle.ec_clerk_steps.proofs.Serving.{step-next}
+use Rattle.ec_lawful.specs.OfClerkSteps.Frames.{RecordMakes}
+use Rattle.ec_lawful.proofs.OfClerkSteps.Serving.{step-next}
 use Rattle.ec_base.proofs.Options.{none_some}
 use Rattle.ec_base.proofs.Numbers.{equal}
 

@@ -10,19 +10,19 @@ use Rattle.ec_coherence.proofs.Goes.{goes-rest}
 use Rattle.ec_coherence.proofs.ClerkIn.{start-same}
 use Rattle.ec_coherence.proofs.Tables.{same_some}
 use Rattle.ec_coherence.specs.StandLaws.{IsUnderWay}
-use Rattle.ec_clerk_steps.specs.CallLaws.{IsQuiet}
-use Rattle.ec_clerk_steps.specs.Waits.{HasLine}
-use Rattle.ec_clerk_steps.proofs.Quiet.{quiet-calls, quiet-lines}
-use Rattle.ec_clerk_steps.specs.DoingLaws.{IsInHand}
-use Rattle.ec_clerk_steps.proofs.CacheLogs as kept
-use Rattle.ec_clerk_steps.proofs.Hand as hand
-use Rattle.ec_clerk_steps.proofs.Moving as moving
-use Rattle.ec_clerk_steps.proofs.Calm.{are-calm}
-use Rattle.ec_clerk_steps.proofs.Going.{calm-keeps}
-use Rattle.ec_clerk_steps.proofs.ZerosBehind.{steps-keep}
-use Rattle.ec_clerk_steps.proofs.FreesStored.{stills-keep}
-use Rattle.ec_clerk_steps.specs.Trying.{IsTrying}
-use Rattle.ec_clerk_steps.specs.Zeros.{HasNoZero}
+use Rattle.ec_lawful.specs.OfClerkSteps.CallLaws.{IsQuiet}
+use Rattle.ec_lawful.specs.OfClerkSteps.Waits.{HasLine}
+use Rattle.ec_lawful.proofs.OfClerkSteps.Quiet.{quiet-calls, quiet-lines}
+use Rattle.ec_lawful.specs.OfClerkSteps.DoingLaws.{IsInHand}
+use Rattle.ec_lawful.proofs.OfClerkSteps.CacheLogs as kept
+use Rattle.ec_lawful.proofs.OfClerkSteps.Hand as hand
+use Rattle.ec_lawful.proofs.OfClerkSteps.Moving as moving
+use Rattle.ec_lawful.proofs.OfClerkSteps.Calm.{are-calm}
+use Rattle.ec_lawful.proofs.OfClerkSteps.Going.{calm-keeps}
+use Rattle.ec_lawful.proofs.OfClerkSteps.ZerosBehind.{steps-keep}
+use Rattle.ec_lawful.proofs.OfClerkSteps.FreesStored.{stills-keep}
+use Rattle.ec_lawful.specs.OfClerkSteps.Trying.{IsTrying}
+use Rattle.ec_lawful.specs.OfClerkSteps.Zeros.{HasNoZero}
 use Rattle.ec_lawful.specs.Rooms.{unasked}
 use Rattle.ec_base.proofs.Options.{none_some}
 

@@ -12,14 +12,14 @@ use Rattle.ec_history.specs.declared.entry.Entry.{Entry}
 use Rattle.ec_history.specs.declared.entry.Entry.TheVariants as entry
 use Rattle.ec_history.specs.declared.shown.Shown.{Shown}
 use Rattle.ec_history.specs.declared.shown.Shown.TheVariants as show
-use Rattle.ec_laws.proofs.Places.{places-within}
+use Rattle.ec_history.proofs.OfLaws.Places.{places-within}
 use Rattle.ec_coherence.specs.System.{System, base_of}
 use Rattle.ec_coherence.specs.Tokens.{in_sixteen}
 use Rattle.ec_coherence.specs.Events.{shown_boot}
 use Rattle.ec_coherence.proofs.Tables.{at-put}
 use Rattle.ec_coherence.specs.CommitLaws.{AllAgree}
-use Rattle.ec_clerk_steps.specs.Names.{NamesAgree}
-use Rattle.ec_clerk_steps.specs.Zeros.{ZerosAgree}
+use Rattle.ec_lawful.specs.OfClerkSteps.Names.{NamesAgree}
+use Rattle.ec_lawful.specs.OfClerkSteps.Zeros.{ZerosAgree}
 use Rattle.ec_lawful.specs.Creates.{creates}
 use Rattle.ec_lawful.specs.FreshIds.{IsFresh, IsGiven, MadeNone, OnCreate}
 use Rattle.ec_lawful.specs.Fresh.{AreFresh, FreshAgrees, IsOfStart, Stored, Taken}
@@ -29,7 +29,7 @@ use Rattle.ec_lawful.proofs.Goes.{not-both, taken-named}
 use Rattle.ec_lawful.proofs.Quiet.{cut-front}
 use Rattle.ec_base.proofs.Bools.{left as and_first, not-both as no_both, right as and_next, is-true}
 use Rattle.ec_base.proofs.Numbers.{same-self as same, equal}
-use Rattle.ec_laws.proofs.BasesAlike.{each-map}
+use Rattle.ec_history.proofs.OfLaws.BasesAlike.{each-map}
 
 -- no id in store is 0
 pub stored-above : (g : System) → AllAgree g → ZerosAgree g → (c b x : ℕ) → Stored g c b x → 1 ≤ x

@@ -7,8 +7,8 @@ use Rattle.ec_volume.specs.declared.image.Image.TheVariants.{Gone}
 use Rattle.ec_plain.specs.declared.call.Call.{Call}
 use Rattle.ec_history.specs.declared.entry.Answer.{Answer}
 use Rattle.ec_history.specs.declared.shown.Shown.TheVariants.{Answered}
-use Rattle.ec_report.specs.Report.{Owed}
-use Rattle.ec_resolve.specs.declared.verdict.Verdict.{Verdict}
+use Rattle.ec_cache.specs.OfReport.Report.{Owed}
+use Rattle.ec_cache.specs.declared.resolve.verdict.Verdict.{Verdict}
 use Rattle.ec_protocol.specs.Clerk.{Doing, first_id, verdict}
 use Rattle.ec_protocol.specs.declared.clerk.Clerk.{Clerk}
 use Rattle.ec_protocol.specs.declared.clerk.Waiting.{Waiting}
@@ -18,10 +18,10 @@ use Rattle.ec_coherence.proofs.ClerkIn.{start-same}
 use Rattle.ec_coherence.proofs.Tables.{same_some}
 use Rattle.ec_coherence.specs.CommitLaws.{AllAgree}
 use Rattle.ec_coherence.specs.Answers.{Gives, fresh_of}
-use Rattle.ec_clerk_steps.specs.Answering.{Suits, answered_clerk}
-use Rattle.ec_clerk_steps.specs.Trying.{AnswersWith, IsTrying}
-use Rattle.ec_clerk_steps.proofs.Clerked.{IsKept, answered-kept}
-use Rattle.ec_clerk_steps.proofs.Turned.{same-session}
+use Rattle.ec_lawful.specs.OfClerkSteps.Answering.{Suits, answered_clerk}
+use Rattle.ec_lawful.specs.OfClerkSteps.Trying.{AnswersWith, IsTrying}
+use Rattle.ec_lawful.proofs.OfClerkSteps.Clerked.{IsKept, answered-kept}
+use Rattle.ec_lawful.proofs.OfClerkSteps.Turned.{same-session}
 use Rattle.ec_lawful.specs.Creates.{creates}
 use Rattle.ec_lawful.specs.Fresh.{FreshAgrees, Taken}
 use Rattle.ec_lawful.specs.FreshLaws.{HasOld}
@@ -30,7 +30,7 @@ use Rattle.ec_lawful.proofs.Goes.{in-it}
 use Rattle.ec_lawful.proofs.Makes.{spends}
 use Rattle.ec_lawful.proofs.FreshSteps.{hidden-was, taken-was, twice}
 use Rattle.ec_base.proofs.Options.{none_some}
-use Rattle.ec_clerk_steps.proofs.Issue.{first-gone, first-in}
+use Rattle.ec_lawful.proofs.OfClerkSteps.Issue.{first-gone, first-in}
 
 -- What the ghosts are behind an answer.
 module _ (g : System) (c b : ℕ) (d : Doing) (γ : Ghost) (l : ℕ) (cl : Call) (a : Answer) (op : Option ℕ) (δ : Ghost) where

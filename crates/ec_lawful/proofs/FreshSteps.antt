@@ -11,8 +11,8 @@ use Rattle.ec_coherence.specs.Tokens.{in_sixteen, is_untaken, side}
 use Rattle.ec_coherence.proofs.ClerkIn.{start-same}
 use Rattle.ec_coherence.proofs.Tables.{same_some}
 use Rattle.ec_coherence.specs.CommitLaws.{AllAgree}
-use Rattle.ec_clerk_steps.specs.Names.{NamesAgree}
-use Rattle.ec_clerk_steps.specs.Moves.{IsStill}
+use Rattle.ec_lawful.specs.OfClerkSteps.Names.{NamesAgree}
+use Rattle.ec_lawful.specs.OfClerkSteps.Moves.{IsStill}
 use Rattle.ec_lawful.specs.FreshIds.{AreQuiet}
 use Rattle.ec_lawful.specs.Fresh.{FreshAgrees, Hidden, IsIn, Taken}
 use Rattle.ec_lawful.specs.FreshLaws.{HasOld, SameLines}

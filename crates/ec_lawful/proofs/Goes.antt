@@ -13,13 +13,13 @@ use Rattle.ec_coherence.specs.Events.{shown_boot}
 use Rattle.ec_coherence.proofs.Lists.{each-at}
 use Rattle.ec_coherence.proofs.Tables.{same_some}
 use Rattle.ec_coherence.specs.CommitLaws.{AllAgree}
-use Rattle.ec_clerk_steps.specs.Names.{NamesAgree}
+use Rattle.ec_lawful.specs.OfClerkSteps.Names.{NamesAgree}
 use Rattle.ec_lawful.specs.FreshIds.{IsGiven, OnCreate}
 use Rattle.ec_lawful.specs.Fresh.{AreFresh, FreshAgrees, Hidden, IsIn, IsOfStart, Stored, Taken}
 use Rattle.ec_lawful.specs.FreshLaws.{GoesQuiet}
 use Rattle.ec_lawful.proofs.Quiet.{cut-front, quiet-each, quiet-few, quiet-fresh}
 use Rattle.ec_base.proofs.Bools.{left as and_first, not-both as no_both, right as and_next}
-use Rattle.ec_laws.proofs.BasesAlike.{each-map}
+use Rattle.ec_history.proofs.OfLaws.BasesAlike.{each-map}
 
 -- Where starts are.
 

@@ -12,12 +12,12 @@ use Rattle.ec_history.specs.declared.entry.Entry.{Entry}
 use Rattle.ec_history.specs.declared.entry.Entry.TheVariants as entry
 use Rattle.ec_history.specs.declared.shown.Shown.{Shown}
 use Rattle.ec_history.specs.declared.shown.Shown.TheVariants as show
-use Rattle.ec_laws.proofs.Cuts.{throughout-append, throughout-back, throughout-front}
-use Rattle.ec_laws.proofs.Held.{place-late}
-use Rattle.ec_laws.proofs.Late.{place-answer}
-use Rattle.ec_laws.proofs.Numbers.{each-append, each-back, each-front}
-use Rattle.ec_laws.proofs.Places.{places-within}
-use Rattle.ec_laws.proofs.Watching.{untold-runs}
+use Rattle.ec_history.proofs.OfLaws.Cuts.{throughout-append, throughout-back, throughout-front}
+use Rattle.ec_history.proofs.OfLaws.Held.{place-late}
+use Rattle.ec_history.proofs.OfLaws.Late.{place-answer}
+use Rattle.ec_history.proofs.OfLaws.Numbers.{each-append, each-back, each-front}
+use Rattle.ec_history.proofs.OfLaws.Places.{places-within}
+use Rattle.ec_history.proofs.OfLaws.Watching.{untold-runs}
 use Rattle.ec_lawful.specs.Creates.{creates}
 use Rattle.ec_lawful.specs.FreshIds.{IsFresh, MadeNone, OnCreate}
 

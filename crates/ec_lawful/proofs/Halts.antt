@@ -11,28 +11,28 @@ use Rattle.ec_durable.specs.declared.record.Record.TheVariants as record_of
 use Rattle.ec_durable.specs.declared.record.Record.TheVariants.{Batch, Open, End, Ids, Epoch}
 use Rattle.ec_durable.specs.declared.record.RecordFault.{RecordFault}
 use Rattle.ec_durable.specs.declared.record.RecordFault.TheVariants.{BadNumber}
-use Rattle.ec_clerk_steps.specs.Names.{NamesAgree}
+use Rattle.ec_lawful.specs.OfClerkSteps.Names.{NamesAgree}
 use Rattle.ec_lawful.specs.Founds.{Makes, bare, found_ghost, started_in, with_found}
 use Rattle.ec_lawful.proofs.Founds.{found-shown, founds-make, steps-so}
 use Rattle.ec_lawful.proofs.Ups.{bare-all}
-use Rattle.ec_clerk_steps.specs.Frames.{RecordMakes}
-use Rattle.ec_clerk_steps.proofs.Records.{records-counts, records-cuts}
-use Rattle.ec_clerk_steps.proofs.Steps.{step-most}
-use Rattle.ec_clerk_steps.proofs.Serving.{states-keep}
-use Rattle.ec_clerk_steps.specs.Fulls.{AreFullAt, IsFullAt}
-use Rattle.ec_clerk_steps.proofs.Served.{start-right}
+use Rattle.ec_lawful.specs.OfClerkSteps.Frames.{RecordMakes}
+use Rattle.ec_lawful.proofs.OfClerkSteps.Records.{records-counts, records-cuts}
+use Rattle.ec_lawful.proofs.OfClerkSteps.Steps.{step-most}
+use Rattle.ec_lawful.proofs.OfClerkSteps.Serving.{states-keep}
+use Rattle.ec_lawful.specs.OfClerkSteps.Fulls.{AreFullAt, IsFullAt}
+use Rattle.ec_lawful.proofs.OfClerkSteps.Served.{start-right}
 use Rattle.ec_coherence.proofs.Lists.{each-more}
 use Rattle.ec_lawful.proofs.Follows.{Moves, next-grows, record-moves}
 use Rattle.ec_lawful.proofs.Server.{few-lines, quiet-lines, tells-on}
 use Rattle.ec_lawful.proofs.Stores.{frees-behind, names-behind}
 use Rattle.std.specs.List.{list_all}
-use Rattle.ec_clerk_steps.specs.CallLaws.{is_quiet}
+use Rattle.ec_lawful.specs.OfClerkSteps.CallLaws.{is_quiet}
 use Rattle.ec_base.specs.Tables.{at_or}
 use Rattle.ec_history.specs.Placing.{watch, watch_next}
 use Rattle.ec_history.specs.declared.watch.Watch.{Watch}
 use Rattle.ec_history.specs.declared.shown.Shown.{Shown}
 use Rattle.ec_history.specs.declared.shown.Shown.TheVariants as show
-use Rattle.ec_laws.proofs.More.{watch-step}
+use Rattle.ec_history.proofs.OfLaws.More.{watch-step}
 use Rattle.ec_durable.specs.Durable.{slot, step}
 use Rattle.ec_durable.specs.declared.record.Record.{Record}
 use Rattle.ec_protocol.specs.Server.{Serving, commit, epoch, new_server, serving, spend, start, stay, tell, tell_all, tell_ended, tell_start}
@@ -45,11 +45,11 @@ use Rattle.ec_coherence.specs.StandLaws.{crashed, lined, stopped}
 use Rattle.ec_coherence.proofs.Crashes.{crashes-stand}
 use Rattle.ec_coherence.proofs.Halts.{halts-stand}
 use Rattle.ec_coherence.proofs.Lines.{lines-stand, nothing-stands, started-stands, stopped-line-stands}
-use Rattle.ec_clerk_steps.proofs.CallFrames.{calls-kept, record-quiet, rest-kept}
-use Rattle.ec_clerk_steps.proofs.Told.{crashed-calls, crashed-rest}
-use Rattle.ec_clerk_steps.proofs.CutFrames.{crash-counts, crash-cuts, lines-keep-counts, same-cuts}
-use Rattle.ec_clerk_steps.proofs.NameFrames.{names-read}
-use Rattle.ec_clerk_steps.proofs.ZerosBehind.{records-keep, same-keeps}
+use Rattle.ec_lawful.proofs.OfClerkSteps.CallFrames.{calls-kept, record-quiet, rest-kept}
+use Rattle.ec_lawful.proofs.OfClerkSteps.Told.{crashed-calls, crashed-rest}
+use Rattle.ec_lawful.proofs.OfClerkSteps.CutFrames.{crash-counts, crash-cuts, lines-keep-counts, same-cuts}
+use Rattle.ec_lawful.proofs.OfClerkSteps.NameFrames.{names-read}
+use Rattle.ec_lawful.proofs.OfClerkSteps.ZerosBehind.{records-keep, same-keeps}
 use Rattle.ec_lawful.specs.Doubts.{ComesFrom, ComesFromAny, DoubtAgrees, doubted}
 use Rattle.ec_lawful.specs.HeadlineLaws.{GoesBy}
 use Rattle.ec_lawful.proofs.LinesTell.{line-tells}

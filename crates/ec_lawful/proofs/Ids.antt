@@ -21,15 +21,15 @@ use Rattle.ec_coherence.proofs.Ids.{in-either}
 use Rattle.ec_coherence.proofs.Tables.{same_some}
 use Rattle.ec_coherence.proofs.TakeGrant.{by-session}
 use Rattle.ec_coherence.specs.CommitLaws.{AllAgree}
-use Rattle.ec_clerk_steps.specs.DoingLaws.{IsIds, IsInHand}
-use Rattle.ec_clerk_steps.proofs.Moving as moving
+use Rattle.ec_lawful.specs.OfClerkSteps.DoingLaws.{IsIds, IsInHand}
+use Rattle.ec_lawful.proofs.OfClerkSteps.Moving as moving
 use Rattle.ec_lawful.specs.Fresh.{FreshAgrees, Hidden, IsIn, Stored, Taken}
 use Rattle.ec_lawful.specs.FreshLaws.{HasOld}
 use Rattle.ec_lawful.proofs.Goes.{goes-fresh}
 use Rattle.ec_lawful.proofs.FreshSteps.{in-cases, step-fresh, twice}
 use Rattle.ec_base.proofs.Bools.{left as and_first, not-both as no_both, and-both as and_both, is-true, holds-true as holds}
 use Rattle.ec_base.proofs.Numbers.{same-self as same, equal}
-use Rattle.ec_clerk_steps.proofs.StoredIds.{within}
+use Rattle.ec_lawful.proofs.OfClerkSteps.StoredIds.{within}
 
 -- Ids are taken.
 module _ (g : System) (c b s : ℕ) (d : Doing) (γ : Ghost) (h : IsInHand g c b s d γ) (fa : FreshAgrees (doing_in c b d γ g)) where

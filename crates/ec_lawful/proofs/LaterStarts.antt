@@ -17,7 +17,7 @@ use Rattle.ec_coherence.proofs.Needs.{each-of}
 use Rattle.ec_coherence.proofs.OpenSlots.{at-open}
 use Rattle.ec_coherence.proofs.Tables.{fails, same_some}
 use Rattle.ec_coherence.specs.CommitLaws.{AllAgree}
-use Rattle.ec_clerk_steps.proofs.Steps.{open-steps}
+use Rattle.ec_lawful.proofs.OfClerkSteps.Steps.{open-steps}
 use Rattle.ec_lawful.specs.Asked.{AsksAgree}
 use Rattle.ec_lawful.proofs.Pays.{MayOpen}
 use Rattle.ec_protocol.specs.Clerk.{is_session}

@@ -97,3 +97,5 @@ pub mod Worlds
 pub mod Entries
 pub mod RunsInOrder
 pub mod StepsLemmas
+pub mod OfClerkSteps
+pub mod OfClerkLaws

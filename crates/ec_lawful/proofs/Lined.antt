@@ -8,8 +8,8 @@ use Rattle.ec_protocol.specs.declared.clerk.Waiting.{Waiting}
 use Rattle.ec_coherence.specs.System.{System}
 use Rattle.ec_coherence.specs.Steps.{call_of}
 use Rattle.ec_coherence.proofs.Tables.{same_some}
-use Rattle.ec_clerk_steps.specs.Calls.{CallsAgree, IsOpenCall, is_shown}
-use Rattle.ec_clerk_steps.specs.Waits.{AreAtRest, HasLine, does_wait}
+use Rattle.ec_lawful.specs.OfClerkSteps.Calls.{CallsAgree, IsOpenCall, is_shown}
+use Rattle.ec_lawful.specs.OfClerkSteps.Waits.{AreAtRest, HasLine, does_wait}
 use Rattle.ec_base.proofs.Numbers.{equal}
 
 pub calls-lined : (g : System) → CallsAgree g → AreAtRest g → (c n l : ℕ) (cl : Call) → call_of c n g.calls ≡ Some (l, cl) → is_shown g l ≡ true

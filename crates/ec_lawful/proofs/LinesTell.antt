@@ -18,9 +18,9 @@ use Rattle.ec_coherence.specs.System.{System, Ghost, base_of, is_of, undurable}
 use Rattle.ec_coherence.specs.Events.{shown_boot}
 use Rattle.ec_coherence.specs.CommitLaws.{AllAgree}
 use Rattle.ec_coherence.specs.Watches.{WatchAgrees, still_in}
-use Rattle.ec_laws.specs.Accounts.{IsUndurable, LinesTell}
-use Rattle.ec_laws.specs.Laws.{OneMore}
-use Rattle.ec_laws.proofs.Telling.{nothing-tells, one-more}
+use Rattle.ec_history.specs.OfLaws.Accounts.{IsUndurable, LinesTell}
+use Rattle.ec_history.specs.OfLaws.Laws.{OneMore}
+use Rattle.ec_history.proofs.OfLaws.Telling.{nothing-tells, one-more}
 use Rattle.ec_lawful.specs.Headline.{AreLawful, FrontsAreLawful}
 use Rattle.ec_lawful.specs.HeadlineLaws.{GoesBy, TellsAll}
 use Rattle.ec_lawful.proofs.Rebase.{SameIds, fronts-by, legal-by, tells-by}

@@ -17,20 +17,20 @@ use Rattle.ec_plain.specs.declared.call.Call.{Call}
 use Rattle.ec_plain.specs.declared.call.Call.TheVariants as call
 use Rattle.ec_plain.specs.declared.call.Outcome.{Outcome}
 use Rattle.ec_plain.specs.declared.call.Refusal.TheVariants as no
-use Rattle.ec_laws.proofs.Makes.{Makes, cond-makes, issues-makes, parent-makes, refuses-makes}
+use Rattle.ec_history.proofs.OfLaws.Makes.{Makes, cond-makes, issues-makes, parent-makes, refuses-makes}
 use Rattle.ec_durable.specs.Durable.{made}
 use Rattle.ec_cache.specs.Cache.{images_held}
-use Rattle.ec_resolve.specs.Agreement.{IsFor, Shows}
-use Rattle.ec_resolve.specs.declared.verdict.Verdict.{Verdict}
-use Rattle.ec_resolve.specs.declared.verdict.Verdict.TheVariants.{Need, Lost, NeedIds, Done}
-use Rattle.ec_resolve.proofs.Verdicts.{done-says}
+use Rattle.ec_cache.specs.OfResolve.Agreement.{IsFor, Shows}
+use Rattle.ec_cache.specs.declared.resolve.verdict.Verdict.{Verdict}
+use Rattle.ec_cache.specs.declared.resolve.verdict.Verdict.TheVariants.{Need, Lost, NeedIds, Done}
+use Rattle.ec_cache.proofs.OfResolve.Verdicts.{done-says}
 use Rattle.ec_history.specs.declared.entry.Answer.{Answer}
-use Rattle.ec_report.specs.Report.{Owed}
+use Rattle.ec_cache.specs.OfReport.Report.{Owed}
 use Rattle.ec_protocol.specs.Clerk.{first_id, verdict}
 use Rattle.ec_protocol.specs.declared.clerk.Clerk.{Clerk}
 use Rattle.ec_coherence.specs.Answers.{Gives}
-use Rattle.ec_clerk_steps.specs.Answering.{Suits, answered_clerk}
-use Rattle.ec_clerk_steps.proofs.Turned.{makes-first}
+use Rattle.ec_lawful.specs.OfClerkSteps.Answering.{Suits, answered_clerk}
+use Rattle.ec_lawful.proofs.OfClerkSteps.Turned.{makes-first}
 use Rattle.ec_lawful.specs.Creates.{creates}
 
 -- An update of a call that makes objects makes one.
@@ -95,7 +95,7 @@ module _ (k : Clerk) (cl : Call) (cr : creates cl ≡ true) where
       its : IsFor (first_id k.ids) (or_else 0 (first_id k.ids))
       its x q = ap (or_else 0) q
 
-  by-done : (o : Outcome) → verdict cl k ≡ Done o → (u : Option Update) → o.update ≡ u → T (is_some (elim u as (λ z. Option ℕ) [ None ↦ None | Some w ↦ Some k.log.next ])) → IsSpent k (Rattle.ec_clerk_steps.specs.Answering.done_clerk o u k)
+  by-done : (o : Outcome) → verdict cl k ≡ Done o → (u : Option Update) → o.update ≡ u → T (is_some (elim u as (λ z. Option ℕ) [ None ↦ None | Some w ↦ Some k.log.next ])) → IsSpent k (Rattle.ec_lawful.specs.OfClerkSteps.Answering.done_clerk o u k)
   by-done o e None q t = absurd t
   by-done o e (Some u) q t =
       let m = of-update o e u q in

@@ -7,9 +7,9 @@ use Rattle.ec_history.specs.History.{Base, History, Op, Throughout, Each, Covers
 use Rattle.ec_history.specs.Legal.{IsLegal, IsLegalNext}
 use Rattle.ec_history.specs.declared.entry.Entry.{Entry}
 use Rattle.ec_history.specs.declared.entry.Entry.TheVariants as entry
-use Rattle.ec_laws.proofs.More.{issued-step}
-use Rattle.ec_laws.proofs.Numbers.{IsUpTo, count, each-append, issued-up_to}
-use Rattle.ec_laws.proofs.Answered.{closure-held}
+use Rattle.ec_history.proofs.OfLaws.More.{issued-step}
+use Rattle.ec_history.proofs.OfLaws.Numbers.{IsUpTo, count, each-append, issued-up_to}
+use Rattle.ec_history.proofs.OfLaws.Answered.{closure-held}
 
 module _ (base : Base) (most : ℕ) where
   one-next : (past : History) (e : ℕ × Entry) → IsLegalNext base most past e → Each (λ k. 1 ≤ k.number) (issued_by base (kept base past) e)

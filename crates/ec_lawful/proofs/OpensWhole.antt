@@ -14,9 +14,9 @@ use Rattle.ec_coherence.proofs.Tables.{same_some}
 use Rattle.ec_lawful.specs.Olds.{opened_in, owner_from, frozen_if}
 use Rattle.ec_lawful.proofs.Olds.{opened-all}
 use Rattle.ec_lawful.proofs.Volumes.{entries-known, known-id}
-use Rattle.ec_clerk_steps.proofs.Opening.{opening-calls, opening-rest}
-use Rattle.ec_clerk_steps.specs.Names.{AreOnNamed}
-use Rattle.ec_clerk_steps.specs.Zeros.{LeaveOut}
+use Rattle.ec_lawful.proofs.OfClerkSteps.Opening.{opening-calls, opening-rest}
+use Rattle.ec_lawful.specs.OfClerkSteps.Names.{AreOnNamed}
+use Rattle.ec_lawful.specs.OfClerkSteps.Zeros.{LeaveOut}
 use Rattle.ec_lawful.proofs.LinesTell.{nothing-tells-all}
 use Rattle.ec_lawful.proofs.FreshBegins.{begins-fresh}
 use Rattle.ec_lawful.specs.Whole.{Whole}

@@ -14,7 +14,7 @@ use Rattle.ec_protocol.specs.declared.world.Noted.{Noted}
 use Rattle.ec_protocol.specs.declared.world.Noted.TheVariants as noted_of
 use Rattle.ec_coherence.proofs.Carried.{slot-same}
 use Rattle.ec_coherence.proofs.Tables.{differs}
-use Rattle.ec_clerk_steps.proofs.Steps.{epoch-own, open-is, open-others, open-steps}
+use Rattle.ec_lawful.proofs.OfClerkSteps.Steps.{epoch-own, open-is, open-others, open-steps}
 use Rattle.ec_lawful.specs.Asked.{passed, seat, to_end}
 use Rattle.ec_lawful.proofs.Seats.{batch-seat, end-seat, ids-seat}
 use Rattle.ec_base.specs.Bools.{one_if}

@@ -15,26 +15,26 @@ use Rattle.ec_coherence.specs.Sessions as sessions
 use Rattle.ec_coherence.specs.Steps.{doing_in}
 use Rattle.ec_coherence.specs.Tokens.{Fits, view}
 use Rattle.ec_coherence.proofs.Needs.{each-of}
-use Rattle.ec_clerk_steps.specs.CallLaws.{is_calm}
-use Rattle.ec_clerk_steps.proofs.Quiets.{quiet-taken}
-use Rattle.ec_clerk_steps.specs.DoingLaws.{IsInHand}
-use Rattle.ec_clerk_steps.proofs.Restarting.{takes-restarted}
-use Rattle.ec_clerk_steps.proofs.Taking.{takes-grant, takes-kept, takes-recall}
-use Rattle.ec_clerk_steps.proofs.TakingIds.{takes-ids}
-use Rattle.ec_clerk_steps.specs.Cuts.{CutsAgree}
-use Rattle.ec_clerk_steps.specs.Frames.{IsCalm}
-use Rattle.ec_clerk_steps.proofs.Calm.{are-calm}
-use Rattle.ec_clerk_steps.proofs.Going.{calm-keeps, kept-keeps}
-use Rattle.ec_clerk_steps.proofs.Wholes as wholes
-use Rattle.ec_clerk_steps.specs.Frees.{FreesAgree}
-use Rattle.ec_clerk_steps.specs.Trying.{IsTrying}
-use Rattle.ec_clerk_steps.specs.Zeros.{HasNoZero}
-use Rattle.ec_clerk_steps.specs.ZeroLaws.{SameParts}
-use Rattle.ec_clerk_steps.proofs.Parts.{have-no-zero, ids-have-none}
-use Rattle.ec_clerk_steps.specs.Moves.{IsStill}
-use Rattle.ec_clerk_steps.proofs.Stilling.{are-still, restarts-still}
-use Rattle.ec_clerk_steps.proofs.FreesStored.{stills-keep}
-use Rattle.ec_clerk_steps.proofs.StoredIds.{ids-keep-frees}
+use Rattle.ec_lawful.specs.OfClerkSteps.CallLaws.{is_calm}
+use Rattle.ec_lawful.proofs.OfClerkSteps.Quiets.{quiet-taken}
+use Rattle.ec_lawful.specs.OfClerkSteps.DoingLaws.{IsInHand}
+use Rattle.ec_lawful.proofs.OfClerkSteps.Restarting.{takes-restarted}
+use Rattle.ec_lawful.proofs.OfClerkSteps.Taking.{takes-grant, takes-kept, takes-recall}
+use Rattle.ec_lawful.proofs.OfClerkSteps.TakingIds.{takes-ids}
+use Rattle.ec_lawful.specs.OfClerkSteps.Cuts.{CutsAgree}
+use Rattle.ec_lawful.specs.OfClerkSteps.Frames.{IsCalm}
+use Rattle.ec_lawful.proofs.OfClerkSteps.Calm.{are-calm}
+use Rattle.ec_lawful.proofs.OfClerkSteps.Going.{calm-keeps, kept-keeps}
+use Rattle.ec_lawful.proofs.OfClerkSteps.Wholes as wholes
+use Rattle.ec_lawful.specs.OfClerkSteps.Frees.{FreesAgree}
+use Rattle.ec_lawful.specs.OfClerkSteps.Trying.{IsTrying}
+use Rattle.ec_lawful.specs.OfClerkSteps.Zeros.{HasNoZero}
+use Rattle.ec_lawful.specs.OfClerkSteps.ZeroLaws.{SameParts}
+use Rattle.ec_lawful.proofs.OfClerkSteps.Parts.{have-no-zero, ids-have-none}
+use Rattle.ec_lawful.specs.OfClerkSteps.Moves.{IsStill}
+use Rattle.ec_lawful.proofs.OfClerkSteps.Stilling.{are-still, restarts-still}
+use Rattle.ec_lawful.proofs.OfClerkSteps.FreesStored.{stills-keep}
+use Rattle.ec_lawful.proofs.OfClerkSteps.StoredIds.{ids-keep-frees}
 use Rattle.ec_coherence.specs.CommitLaws.{AllAgree}
 use Rattle.ec_lawful.specs.Fresh.{FreshAgrees}
 use Rattle.ec_lawful.proofs.Ids.{ids-fresh}

@@ -7,9 +7,9 @@ use Rattle.ec_history.specs.declared.entry.Entry.{Entry}
 use Rattle.ec_history.specs.declared.entry.Entry.TheVariants as entry
 use Rattle.ec_history.specs.declared.shown.Shown.{Shown}
 use Rattle.ec_history.specs.declared.shown.Shown.TheVariants as show
-use Rattle.ec_laws.proofs.Cuts.{throughout-append}
-use Rattle.ec_laws.proofs.Late.{place-ended, place-no_call}
-use Rattle.ec_laws.proofs.Numbers.{each-append}
+use Rattle.ec_history.proofs.OfLaws.Cuts.{throughout-append}
+use Rattle.ec_history.proofs.OfLaws.Late.{place-ended, place-no_call}
+use Rattle.ec_history.proofs.OfLaws.Numbers.{each-append}
 use Rattle.ec_lawful.specs.FreshIds.{IsFresh, OnCreate}
 use Rattle.ec_lawful.specs.FreshIds.{AreQuiet}
 use Rattle.ec_base.specs.Options.{or_zero}

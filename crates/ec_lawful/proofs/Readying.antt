@@ -7,25 +7,25 @@ use Rattle.ec_coherence.specs.System.{System, Ghost}
 use Rattle.ec_coherence.specs.Sessions.{HasNone}
 use Rattle.ec_coherence.specs.Steps.{doing_in}
 use Rattle.ec_coherence.proofs.ClerkIn.{start-same}
-use Rattle.ec_clerk_steps.specs.CallLaws.{IsQuiet, prepared}
-use Rattle.ec_clerk_steps.specs.Waits.{AreInTurn, HasLine, NoneReady}
-use Rattle.ec_clerk_steps.proofs.Quiets.{quiet-evict, quiet-prepared}
-use Rattle.ec_clerk_steps.proofs.Still.{begins-still}
-use Rattle.ec_clerk_steps.proofs.Turns.{still-turn}
-use Rattle.ec_clerk_steps.specs.Cuts.{CutsAgree}
-use Rattle.ec_clerk_steps.proofs.Calm.{are-calm}
-use Rattle.ec_clerk_steps.proofs.Going.{calm-keeps}
-use Rattle.ec_clerk_steps.specs.DoingLaws.{IsInHand}
-use Rattle.ec_clerk_steps.proofs.Evicting.{evicts}
-use Rattle.ec_clerk_steps.proofs.Pushes.{asks-pushes}
-use Rattle.ec_clerk_steps.proofs.Recalls.{answers}
-use Rattle.ec_clerk_steps.specs.Moves.{IsStill}
-use Rattle.ec_clerk_steps.proofs.Stilling.{are-still}
-use Rattle.ec_clerk_steps.proofs.FreesStored.{stills-keep}
-use Rattle.ec_clerk_steps.specs.Frees.{FreesAgree}
-use Rattle.ec_clerk_steps.specs.Trying.{IsTrying}
-use Rattle.ec_clerk_steps.specs.Zeros.{HasNoZero}
-use Rattle.ec_clerk_steps.proofs.Parts.{have-no-zero}
+use Rattle.ec_lawful.specs.OfClerkSteps.CallLaws.{IsQuiet, prepared}
+use Rattle.ec_lawful.specs.OfClerkSteps.Waits.{AreInTurn, HasLine, NoneReady}
+use Rattle.ec_lawful.proofs.OfClerkSteps.Quiets.{quiet-evict, quiet-prepared}
+use Rattle.ec_lawful.proofs.OfClerkSteps.Still.{begins-still}
+use Rattle.ec_lawful.proofs.OfClerkSteps.Turns.{still-turn}
+use Rattle.ec_lawful.specs.OfClerkSteps.Cuts.{CutsAgree}
+use Rattle.ec_lawful.proofs.OfClerkSteps.Calm.{are-calm}
+use Rattle.ec_lawful.proofs.OfClerkSteps.Going.{calm-keeps}
+use Rattle.ec_lawful.specs.OfClerkSteps.DoingLaws.{IsInHand}
+use Rattle.ec_lawful.proofs.OfClerkSteps.Evicting.{evicts}
+use Rattle.ec_lawful.proofs.OfClerkSteps.Pushes.{asks-pushes}
+use Rattle.ec_lawful.proofs.OfClerkSteps.Recalls.{answers}
+use Rattle.ec_lawful.specs.OfClerkSteps.Moves.{IsStill}
+use Rattle.ec_lawful.proofs.OfClerkSteps.Stilling.{are-still}
+use Rattle.ec_lawful.proofs.OfClerkSteps.FreesStored.{stills-keep}
+use Rattle.ec_lawful.specs.OfClerkSteps.Frees.{FreesAgree}
+use Rattle.ec_lawful.specs.OfClerkSteps.Trying.{IsTrying}
+use Rattle.ec_lawful.specs.OfClerkSteps.Zeros.{HasNoZero}
+use Rattle.ec_lawful.proofs.OfClerkSteps.Parts.{have-no-zero}
 use Rattle.ec_lawful.specs.Whole.{ShowsAll}
 use Rattle.ec_lawful.specs.SettleLaws.{IsLined}
 use Rattle.ec_lawful.proofs.Carrying.{goes-on, in-hand, no-zero, same-shows, still-lined}

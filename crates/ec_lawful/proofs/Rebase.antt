@@ -9,9 +9,9 @@ use Rattle.ec_history.specs.Placing.{place}
 use Rattle.ec_history.specs.declared.entry.Entry.{Entry}
 use Rattle.ec_history.specs.declared.entry.Entry.TheVariants as entry
 use Rattle.ec_history.specs.declared.shown.Shown.{Shown}
-use Rattle.ec_laws.proofs.Places.{places-within}
+use Rattle.ec_history.proofs.OfLaws.Places.{places-within}
 use Rattle.ec_coherence.proofs.Rebased.{Alike, alike-back, covers-same, issued-same, legal-same, throughout-map}
-use Rattle.ec_laws.specs.Accounts.{IsAccounted, LinesTell}
+use Rattle.ec_history.specs.OfLaws.Accounts.{IsAccounted, LinesTell}
 use Rattle.ec_lawful.specs.Headline.{AreLawful, FrontsAreLawful}
 
 -- the ids are the same at all places of these lines

@@ -4,9 +4,9 @@ use Rattle.std.specs.Prelude.{Contains, nat_lt}
 use Rattle.ec_history.specs.History.{Each}
 use Rattle.ec_history.specs.declared.entry.Answer.{Answer}
 use Rattle.ec_history.specs.declared.entry.Answer.TheVariants as answer
-use Rattle.ec_resolve.specs.declared.verdict.Verdict.{Verdict}
-use Rattle.ec_resolve.specs.declared.verdict.Verdict.TheVariants.{Need, Lost, NeedIds, Done}
-use Rattle.ec_report.specs.Report.{Owed}
+use Rattle.ec_cache.specs.declared.resolve.verdict.Verdict.{Verdict}
+use Rattle.ec_cache.specs.declared.resolve.verdict.Verdict.TheVariants.{Need, Lost, NeedIds, Done}
+use Rattle.ec_cache.specs.OfReport.Report.{Owed}
 use Rattle.ec_wire.specs.declared.msg.Msg.TheVariants.{NoRoom}
 use Rattle.ec_protocol.specs.Clerk.{Doing, idless, is_session, keep_call, refuse_make, refuse_makes, take_no_room, taken, verdict, with_clerk}
 use Rattle.ec_protocol.specs.declared.clerk.Clerk.{Clerk}
@@ -14,12 +14,12 @@ use Rattle.ec_protocol.specs.declared.clerk.Out.TheVariants as out
 use Rattle.ec_protocol.specs.declared.clerk.Waiting.{Waiting}
 use Rattle.ec_coherence.specs.System.{System, Ghost}
 use Rattle.ec_coherence.specs.Steps.{doing_in}
-use Rattle.ec_clerk_steps.specs.CallLaws.{Passes}
-use Rattle.ec_clerk_steps.specs.Waits.{HasLine}
+use Rattle.ec_lawful.specs.OfClerkSteps.CallLaws.{Passes}
+use Rattle.ec_lawful.specs.OfClerkSteps.Waits.{HasLine}
 use Rattle.ec_coherence.specs.Answers.{Gives}
-use Rattle.ec_clerk_steps.specs.Answering.{Suits, answered_clerk}
-use Rattle.ec_clerk_steps.specs.Frees.{FullsAgree, IsFull}
-use Rattle.ec_clerk_steps.specs.Trying.{IsTrying}
+use Rattle.ec_lawful.specs.OfClerkSteps.Answering.{Suits, answered_clerk}
+use Rattle.ec_lawful.specs.OfClerkSteps.Frees.{FullsAgree, IsFull}
+use Rattle.ec_lawful.specs.OfClerkSteps.Trying.{IsTrying}
 use Rattle.ec_lawful.specs.Rooms.{IsCarried, OneAnswers, answered_by, left_with, unasked}
 use Rattle.ec_lawful.proofs.Forgets.{forgets}
 

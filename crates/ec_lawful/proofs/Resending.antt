@@ -7,25 +7,25 @@ use Rattle.ec_protocol.specs.declared.clerk.Clerk.{Clerk}
 use Rattle.ec_coherence.specs.System.{System}
 use Rattle.ec_coherence.specs.Steps.{doing_in}
 use Rattle.ec_coherence.proofs.Lists.{each-turn}
-use Rattle.ec_clerk_steps.specs.CallLaws as calls
-use Rattle.ec_clerk_steps.specs.CallLaws.{IsQuiet}
-use Rattle.ec_clerk_steps.specs.DoingLaws.{IsInHand}
-use Rattle.ec_clerk_steps.specs.Waits.{HasLine, IsAtRest, NoneReady, does_wait}
-use Rattle.ec_clerk_steps.proofs.Quiet.{quiet-calls, quiet-lines}
-use Rattle.ec_clerk_steps.proofs.Quiets.{leaves-resend, quiet-hello, quiet-resend}
-use Rattle.ec_clerk_steps.proofs.Still.{none-still, still-waits}
-use Rattle.ec_clerk_steps.proofs.Calm.{are-calm}
-use Rattle.ec_clerk_steps.proofs.Going.{calm-keeps}
-use Rattle.ec_clerk_steps.proofs.Hellos.{hello-cuts, hello-stands}
-use Rattle.ec_clerk_steps.proofs.Calling as calling
-use Rattle.ec_clerk_steps.proofs.NamesChanging.{outs-keep}
-use Rattle.ec_clerk_steps.specs.Moves.{IsStill}
-use Rattle.ec_clerk_steps.proofs.Stilling.{are-still}
-use Rattle.ec_clerk_steps.proofs.FreesStored.{stills-keep}
-use Rattle.ec_clerk_steps.specs.Frees.{FullsAgree}
-use Rattle.ec_clerk_steps.specs.Trying.{IsTrying}
-use Rattle.ec_clerk_steps.proofs.ZerosBehind.{steps-keep}
-use Rattle.ec_clerk_steps.proofs.Parts.{have-no-zero}
+use Rattle.ec_lawful.specs.OfClerkSteps.CallLaws as calls
+use Rattle.ec_lawful.specs.OfClerkSteps.CallLaws.{IsQuiet}
+use Rattle.ec_lawful.specs.OfClerkSteps.DoingLaws.{IsInHand}
+use Rattle.ec_lawful.specs.OfClerkSteps.Waits.{HasLine, IsAtRest, NoneReady, does_wait}
+use Rattle.ec_lawful.proofs.OfClerkSteps.Quiet.{quiet-calls, quiet-lines}
+use Rattle.ec_lawful.proofs.OfClerkSteps.Quiets.{leaves-resend, quiet-hello, quiet-resend}
+use Rattle.ec_lawful.proofs.OfClerkSteps.Still.{none-still, still-waits}
+use Rattle.ec_lawful.proofs.OfClerkSteps.Calm.{are-calm}
+use Rattle.ec_lawful.proofs.OfClerkSteps.Going.{calm-keeps}
+use Rattle.ec_lawful.proofs.OfClerkSteps.Hellos.{hello-cuts, hello-stands}
+use Rattle.ec_lawful.proofs.OfClerkSteps.Calling as calling
+use Rattle.ec_lawful.proofs.OfClerkSteps.NamesChanging.{outs-keep}
+use Rattle.ec_lawful.specs.OfClerkSteps.Moves.{IsStill}
+use Rattle.ec_lawful.proofs.OfClerkSteps.Stilling.{are-still}
+use Rattle.ec_lawful.proofs.OfClerkSteps.FreesStored.{stills-keep}
+use Rattle.ec_lawful.specs.OfClerkSteps.Frees.{FullsAgree}
+use Rattle.ec_lawful.specs.OfClerkSteps.Trying.{IsTrying}
+use Rattle.ec_lawful.proofs.OfClerkSteps.ZerosBehind.{steps-keep}
+use Rattle.ec_lawful.proofs.OfClerkSteps.Parts.{have-no-zero}
 use Rattle.ec_lawful.specs.Steps.{StepIsDone}
 use Rattle.ec_lawful.specs.Whole.{Whole}
 use Rattle.ec_lawful.specs.SettleLaws.{Beside, IsLined}

@@ -39,7 +39,7 @@ use Rattle.ec_lawful.specs.Steps.{HoldsIn, StepIsDone, LineIsNew, IsServed, Step
 use Rattle.ec_lawful.specs.Ties.{called, waiting}
 use Rattle.ec_lawful.specs.AskedLaws.{IsFresh, RestsKeep, RunAsks}
 use Rattle.ec_lawful.proofs.DrillsAsk.{asked-drills}
-use Rattle.ec_clerk_steps.proofs.Steps.{step-most}
+use Rattle.ec_lawful.proofs.OfClerkSteps.Steps.{step-most}
 use Rattle.ec_lawful.specs.Runs.{OfRun, RunShows}
 use Rattle.ec_lawful.specs.Whole.{Whole}
 use Rattle.ec_lawful.proofs.Lined.{calls-lined}

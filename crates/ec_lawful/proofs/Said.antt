@@ -24,9 +24,9 @@ use Rattle.ec_log.specs.declared.state.Asked.{Asked}
 use Rattle.ec_log.specs.declared.state.Asked.TheVariants.{All, Object, Op}
 use Rattle.ec_log.specs.declared.state.Pick.{Pick}
 use Rattle.ec_log.specs.declared.state.Pick.TheVariants as pick_of
-use Rattle.ec_report.specs.Report.{clear}
-use Rattle.ec_resolve.specs.declared.verdict.Verdict.{Verdict}
-use Rattle.ec_resolve.specs.declared.verdict.Verdict.TheVariants.{Need, Lost, NeedIds, Done}
+use Rattle.ec_cache.specs.OfReport.Report.{clear}
+use Rattle.ec_cache.specs.declared.resolve.verdict.Verdict.{Verdict}
+use Rattle.ec_cache.specs.declared.resolve.verdict.Verdict.TheVariants.{Need, Lost, NeedIds, Done}
 use Rattle.ec_protocol.specs.Clerk.{Doing, Tried, Waits, Answered, add_call, add_ids, answer_recalls, answer_with, ask_for, ask_pushes, ask_room, await, awaited, begin, claim, doing, emit, enter_epoch, epoch, evict, evict_unpinned, give_back, has_session, hello, idless, in_session, is_need, is_owing, is_ready, is_session, is_settled, is_wanted, issue_if_room, keep_call, keep_push, keep_recall, lose, mark_recall, may_want, needs, new_clerk, on_objects, or_hello, push, refuse_make, refuse_makes, resend, resend_batches, resend_needs, resend_room, resend_want, same_age, send, send_backs, send_batch, send_outstanding, send_picked, send_room, send_want, session, settle, settle_outcome, spend, start, suits, take, take_ended, take_ids, take_no_room, take_recall, take_restarted, taken, try, try_all, try_each, try_pushes, try_recalls, try_rounds, try_verdict, verdict, want, wanted, with_cache, with_clerk, with_log, with_update}
 use Rattle.ec_protocol.specs.declared.clerk.Clerk.{Clerk}
 use Rattle.ec_protocol.specs.declared.clerk.Out.{Out}

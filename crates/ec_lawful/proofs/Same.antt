@@ -13,22 +13,22 @@ use Rattle.ec_coherence.specs.Steps.{call_of, doing_in}
 use Rattle.ec_coherence.proofs.ClerkIn.{start-same}
 use Rattle.ec_coherence.specs.CommitLaws.{AllAgree}
 use Rattle.ec_coherence.specs.StandLaws.{ClerkStands}
-use Rattle.ec_clerk_steps.specs.Calls.{Began, CallsAgree, IsOpenCall, StartCalls}
-use Rattle.ec_clerk_steps.specs.Waits.{HasLine}
-use Rattle.ec_clerk_steps.specs.CallLaws.{IsQuiet}
-use Rattle.ec_clerk_steps.proofs.Quiet.{quiet-calls, quiet-lines}
-use Rattle.ec_clerk_steps.specs.Names.{NamesAgree}
-use Rattle.ec_clerk_steps.specs.Orderly.{IsOrderly}
-use Rattle.ec_clerk_steps.proofs.NameFrames.{names-read}
-use Rattle.ec_clerk_steps.proofs.NamesChanging.{opened-keeps}
-use Rattle.ec_clerk_steps.specs.Frees.{FreesAgree}
-use Rattle.ec_clerk_steps.specs.Zeros.{HasNoZero, ZerosAgree}
-use Rattle.ec_clerk_steps.specs.Trying.{IsTrying}
-use Rattle.ec_clerk_steps.proofs.ZerosBehind.{steps-keep}
-use Rattle.ec_clerk_steps.proofs.FreesStored.{opened-keeps-frees, stills-keep}
-use Rattle.ec_clerk_steps.specs.JoinLaws.{IsGoing}
-use Rattle.ec_clerk_steps.proofs.Joined as joins
-use Rattle.ec_clerk_steps.proofs.Wholes as wholes
+use Rattle.ec_lawful.specs.OfClerkSteps.Calls.{Began, CallsAgree, IsOpenCall, StartCalls}
+use Rattle.ec_lawful.specs.OfClerkSteps.Waits.{HasLine}
+use Rattle.ec_lawful.specs.OfClerkSteps.CallLaws.{IsQuiet}
+use Rattle.ec_lawful.proofs.OfClerkSteps.Quiet.{quiet-calls, quiet-lines}
+use Rattle.ec_lawful.specs.OfClerkSteps.Names.{NamesAgree}
+use Rattle.ec_lawful.specs.OfClerkSteps.Orderly.{IsOrderly}
+use Rattle.ec_lawful.proofs.OfClerkSteps.NameFrames.{names-read}
+use Rattle.ec_lawful.proofs.OfClerkSteps.NamesChanging.{opened-keeps}
+use Rattle.ec_lawful.specs.OfClerkSteps.Frees.{FreesAgree}
+use Rattle.ec_lawful.specs.OfClerkSteps.Zeros.{HasNoZero, ZerosAgree}
+use Rattle.ec_lawful.specs.OfClerkSteps.Trying.{IsTrying}
+use Rattle.ec_lawful.proofs.OfClerkSteps.ZerosBehind.{steps-keep}
+use Rattle.ec_lawful.proofs.OfClerkSteps.FreesStored.{opened-keeps-frees, stills-keep}
+use Rattle.ec_lawful.specs.OfClerkSteps.JoinLaws.{IsGoing}
+use Rattle.ec_lawful.proofs.OfClerkSteps.Joined as joins
+use Rattle.ec_lawful.proofs.OfClerkSteps.Wholes as wholes
 use Rattle.ec_lawful.specs.Fresh.{FreshAgrees}
 use Rattle.ec_lawful.proofs.Ids.{opened-old}
 use Rattle.ec_lawful.proofs.FreshSteps.{start-fresh, twice}
@@ -38,7 +38,7 @@ use Rattle.ec_lawful.specs.SettleLaws.{IsLined}
 use Rattle.ec_lawful.proofs.Beginning.{begins}
 use Rattle.ec_lawful.proofs.Carrying.{same-shows}
 use Rattle.ec_base.proofs.Numbers.{same-self as same}
-use Rattle.ec_laws.proofs.BasesAlike.{each-map}
+use Rattle.ec_history.proofs.OfLaws.BasesAlike.{each-map}
 
 same-ages : (a b : Age) → a ≡ b → same_age a b ≡ true
 same-ages a b e = ap (λ z. same_age z b) e ∙ ap (λ z. z && (b.round == b.round)) (same b.boot) ∙ same b.round

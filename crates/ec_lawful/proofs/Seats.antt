@@ -11,7 +11,7 @@ use Rattle.ec_durable.specs.declared.record.Record.TheVariants.{Batch, End, Ids}
 use Rattle.ec_durable.specs.declared.record.RecordFault.{RecordFault}
 use Rattle.ec_durable.specs.declared.record.RecordFault.TheVariants.{NoSession, Done, Beyond}
 use Rattle.ec_protocol.specs.World.{session_boot}
-use Rattle.ec_clerk_steps.proofs.Steps.{end-own, ids-are}
+use Rattle.ec_lawful.proofs.OfClerkSteps.Steps.{end-own, ids-are}
 use Rattle.ec_lawful.specs.Asked.{seat}
 
 abbrev Res : Type 0

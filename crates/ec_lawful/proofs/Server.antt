@@ -20,15 +20,15 @@ use Rattle.ec_coherence.specs.CommitLaws.{AllAgree, StepStands}
 use Rattle.ec_coherence.specs.Ends.{show_end}
 use Rattle.ec_coherence.specs.Makes.{IsMade, Makes, beginning}
 use Rattle.ec_coherence.proofs.TakesMaking.{end-stands, takes-any}
-use Rattle.ec_clerk_steps.proofs.CallFrames.{served-calls, served-rest}
-use Rattle.ec_clerk_steps.specs.Frames.{RecordMakes}
-use Rattle.ec_clerk_steps.proofs.Records.{records-counts, records-cuts}
-use Rattle.ec_clerk_steps.proofs.Steps.{step-most}
-use Rattle.ec_clerk_steps.proofs.Serving.{servers-keep}
-use Rattle.ec_clerk_steps.specs.Frees.{FullsAgree}
-use Rattle.ec_clerk_steps.specs.Fulls.{IsFullAt, AreFullAt}
-use Rattle.ec_clerk_steps.proofs.ZerosBehind.{records-keep}
-use Rattle.ec_clerk_steps.proofs.Served.{end-right, take-right}
+use Rattle.ec_lawful.proofs.OfClerkSteps.CallFrames.{served-calls, served-rest}
+use Rattle.ec_lawful.specs.OfClerkSteps.Frames.{RecordMakes}
+use Rattle.ec_lawful.proofs.OfClerkSteps.Records.{records-counts, records-cuts}
+use Rattle.ec_lawful.proofs.OfClerkSteps.Steps.{step-most}
+use Rattle.ec_lawful.proofs.OfClerkSteps.Serving.{servers-keep}
+use Rattle.ec_lawful.specs.OfClerkSteps.Frees.{FullsAgree}
+use Rattle.ec_lawful.specs.OfClerkSteps.Fulls.{IsFullAt, AreFullAt}
+use Rattle.ec_lawful.proofs.OfClerkSteps.ZerosBehind.{records-keep}
+use Rattle.ec_lawful.proofs.OfClerkSteps.Served.{end-right, take-right}
 use Rattle.ec_coherence.proofs.Lists.{each-more}
 use Rattle.ec_lawful.specs.Doubts.{ComesFromAny}
 use Rattle.ec_lawful.specs.HeadlineLaws.{GoesBy, TellsAll}

@@ -19,7 +19,7 @@ use Rattle.ec_protocol.specs.World.{Fate, runs, stops_with, stops_without, Movin
 use Rattle.ec_protocol.specs.declared.world.World.{World}
 use Rattle.ec_protocol.specs.declared.world.WorldFault.TheVariants as fault
 use Rattle.ec_lawful.proofs.Pool.{Sends, sends-all}
-use Rattle.ec_clerk_steps.proofs.Steps.{epoch-own}
+use Rattle.ec_lawful.proofs.OfClerkSteps.Steps.{epoch-own}
 use Rattle.ec_lawful.specs.Asked.{EndsAsked, ended_by, passed, seat, spare, to_end, top}
 use Rattle.ec_lawful.proofs.Pays.{MayOpen, Pays, asks_for, pays}
 use Rattle.ec_lawful.proofs.Reading.{Alike, Notes, alike-asks, ended-line, notes, same-tops}

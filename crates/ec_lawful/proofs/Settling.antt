@@ -7,15 +7,15 @@ use Rattle.ec_protocol.specs.Clerk.{Doing, doing, evict, keep_push, push, settle
 use Rattle.ec_protocol.specs.declared.clerk.Clerk.{Clerk}
 use Rattle.ec_coherence.specs.System.{System, Ghost}
 use Rattle.ec_coherence.specs.Steps.{doing_in, sends}
-use Rattle.ec_clerk_steps.specs.CallLaws.{prepared}
-use Rattle.ec_clerk_steps.specs.Waits.{HasLine, NoneReady}
-use Rattle.ec_clerk_steps.proofs.Resting.{settles-rest, tries-rest}
-use Rattle.ec_clerk_steps.proofs.Spent.{spent-stays}
-use Rattle.ec_clerk_steps.specs.Frees.{FullsAgree}
-use Rattle.ec_clerk_steps.specs.Trying.{IsTrying}
+use Rattle.ec_lawful.specs.OfClerkSteps.CallLaws.{prepared}
+use Rattle.ec_lawful.specs.OfClerkSteps.Waits.{HasLine, NoneReady}
+use Rattle.ec_lawful.proofs.OfClerkSteps.Resting.{settles-rest, tries-rest}
+use Rattle.ec_lawful.proofs.OfClerkSteps.Spent.{spent-stays}
+use Rattle.ec_lawful.specs.OfClerkSteps.Frees.{FullsAgree}
+use Rattle.ec_lawful.specs.OfClerkSteps.Trying.{IsTrying}
 use Rattle.ec_coherence.proofs.Lists.{each-more}
-use Rattle.ec_clerk_steps.specs.Fulls.{AreFullAt, IsFullAt}
-use Rattle.ec_clerk_steps.proofs.Sent.{own-full, push-own, take-own}
+use Rattle.ec_lawful.specs.OfClerkSteps.Fulls.{AreFullAt, IsFullAt}
+use Rattle.ec_lawful.proofs.OfClerkSteps.Sent.{own-full, push-own, take-own}
 use Rattle.ec_lawful.specs.Steps.{StepIsDone}
 use Rattle.ec_lawful.specs.Whole.{ShowsAll, Whole}
 use Rattle.ec_lawful.specs.SettleLaws.{Beside, IsLined, TriesAll}

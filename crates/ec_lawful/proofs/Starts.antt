@@ -28,28 +28,28 @@ use Rattle.ec_coherence.proofs.Lists.{each-more, each-turn}
 use Rattle.ec_coherence.proofs.Tables.{at-put, same_some}
 use Rattle.ec_coherence.specs.CommitLaws.{AllAgree}
 use Rattle.ec_coherence.specs.StandLaws.{lined}
-use Rattle.ec_clerk_steps.specs.Calls.{is_shown}
-use Rattle.ec_clerk_steps.specs.CallLaws.{prepared}
-use Rattle.ec_clerk_steps.specs.Waits.{HasLine, IsAtRest, does_wait}
-use Rattle.ec_clerk_steps.proofs.Begin.{call-put}
-use Rattle.ec_clerk_steps.proofs.Quiet.{split-start}
-use Rattle.ec_clerk_steps.specs.JoinLaws.{started}
+use Rattle.ec_lawful.specs.OfClerkSteps.Calls.{is_shown}
+use Rattle.ec_lawful.specs.OfClerkSteps.CallLaws.{prepared}
+use Rattle.ec_lawful.specs.OfClerkSteps.Waits.{HasLine, IsAtRest, does_wait}
+use Rattle.ec_lawful.proofs.OfClerkSteps.Begin.{call-put}
+use Rattle.ec_lawful.proofs.OfClerkSteps.Quiet.{split-start}
+use Rattle.ec_lawful.specs.OfClerkSteps.JoinLaws.{started}
 use Rattle.ec_lawful.proofs.From.{doubts-stay}
-use Rattle.ec_clerk_steps.specs.Orderly.{IsOrderly, OrderlyAgree}
-use Rattle.ec_clerk_steps.specs.Names.{AreOnNamed, NamesAgree}
-use Rattle.ec_clerk_steps.proofs.Calling.{order-agrees, order-stays}
-use Rattle.ec_clerk_steps.proofs.NamesChanging.{clerks-keep}
-use Rattle.ec_clerk_steps.proofs.FreesStored.{clerks-keep-frees}
+use Rattle.ec_lawful.specs.OfClerkSteps.Orderly.{IsOrderly, OrderlyAgree}
+use Rattle.ec_lawful.specs.OfClerkSteps.Names.{AreOnNamed, NamesAgree}
+use Rattle.ec_lawful.proofs.OfClerkSteps.Calling.{order-agrees, order-stays}
+use Rattle.ec_lawful.proofs.OfClerkSteps.NamesChanging.{clerks-keep}
+use Rattle.ec_lawful.proofs.OfClerkSteps.FreesStored.{clerks-keep-frees}
 use Rattle.ec_lawful.specs.Fresh.{FreshAgrees}
 use Rattle.ec_lawful.specs.FreshLaws.{HasOld}
 use Rattle.ec_lawful.proofs.FreshAnswered.{answers-fresh}
 use Rattle.ec_lawful.proofs.FreshSteps.{hidden-was, start-fresh, taken-was}
 use Rattle.ec_lawful.proofs.LinesTell.{line-tells}
-use Rattle.ec_clerk_steps.specs.Frees.{FreesAgree, FullsAgree}
-use Rattle.ec_clerk_steps.specs.Trying.{IsTrying}
-use Rattle.ec_clerk_steps.specs.Zeros.{HasNoZero, ZerosAgree}
-use Rattle.ec_clerk_steps.specs.Fulls.{IsFullAt}
-use Rattle.ec_clerk_steps.proofs.Sent.{own-full, settle-own}
+use Rattle.ec_lawful.specs.OfClerkSteps.Frees.{FreesAgree, FullsAgree}
+use Rattle.ec_lawful.specs.OfClerkSteps.Trying.{IsTrying}
+use Rattle.ec_lawful.specs.OfClerkSteps.Zeros.{HasNoZero, ZerosAgree}
+use Rattle.ec_lawful.specs.OfClerkSteps.Fulls.{IsFullAt}
+use Rattle.ec_lawful.proofs.OfClerkSteps.Sent.{own-full, settle-own}
 use Rattle.ec_lawful.specs.BeginLaws.{answered_start, behind_first, first_call, first_ghost}
 use Rattle.ec_lawful.proofs.FirstAnswered.{first-answers}
 use Rattle.ec_lawful.proofs.First.{first-begun, first-counts, first-cuts}

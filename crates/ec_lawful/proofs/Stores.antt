@@ -16,12 +16,12 @@ use Rattle.ec_coherence.proofs.Carried.{gone-is}
 use Rattle.ec_coherence.proofs.Lists.{each-at}
 use Rattle.ec_coherence.proofs.Tables.{differs, same_some}
 use Rattle.ec_coherence.specs.CommitLaws.{AllAgree}
-use Rattle.ec_clerk_steps.specs.Frees.{FreesAgree}
-use Rattle.ec_clerk_steps.specs.Zeros.{LeaveOut, ZerosAgree}
-use Rattle.ec_clerk_steps.specs.Names.{AreOnNamed, NamesAgree}
-use Rattle.ec_clerk_steps.specs.Frames.{system_behind}
-use Rattle.ec_clerk_steps.proofs.Serving.{still-in}
-use Rattle.ec_clerk_steps.specs.Follows.{GhostsFollow}
+use Rattle.ec_lawful.specs.OfClerkSteps.Frees.{FreesAgree}
+use Rattle.ec_lawful.specs.OfClerkSteps.Zeros.{LeaveOut, ZerosAgree}
+use Rattle.ec_lawful.specs.OfClerkSteps.Names.{AreOnNamed, NamesAgree}
+use Rattle.ec_lawful.specs.OfClerkSteps.Frames.{system_behind}
+use Rattle.ec_lawful.proofs.OfClerkSteps.Serving.{still-in}
+use Rattle.ec_lawful.specs.OfClerkSteps.Follows.{GhostsFollow}
 use Rattle.ec_lawful.proofs.Follows.{Moves, kept-each}
 use Rattle.ec_base.proofs.Bools.{left as and_first, right as and_next}
 use Rattle.ec_base.proofs.Options.{none_some}

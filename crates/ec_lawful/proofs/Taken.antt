@@ -6,9 +6,9 @@ use Rattle.ec_wire.specs.declared.msg.Msg.TheVariants.{Hello, Want, Back, Flush,
 use Rattle.ec_protocol.specs.Clerk.{doing, take, taken}
 use Rattle.ec_protocol.specs.declared.clerk.Clerk.{Clerk}
 use Rattle.ec_coherence.specs.System.{System}
-use Rattle.ec_clerk_steps.specs.JoinLaws.{ghosts_joined}
-use Rattle.ec_clerk_steps.proofs.Cases as cases
-use Rattle.ec_clerk_steps.proofs.Spent.{spent-stays}
+use Rattle.ec_lawful.specs.OfClerkSteps.JoinLaws.{ghosts_joined}
+use Rattle.ec_lawful.proofs.OfClerkSteps.Cases as cases
+use Rattle.ec_lawful.proofs.OfClerkSteps.Spent.{spent-stays}
 use Rattle.ec_lawful.specs.Steps.{StepIsDone}
 use Rattle.ec_lawful.specs.Whole.{Whole}
 use Rattle.ec_lawful.specs.SettleLaws.{IsLined, TriesAll}
@@ -29,7 +29,7 @@ module _ (g : System) (whole : Whole g) (c b : ℕ) (k : Clerk) (runs : g.runnin
 
   module _ (s : ℕ) (within : k.session ≡ Some s) where
     -- what isn't of the session, and its end
-    beside : (m : Msg) → Contains g.pool (c, m) → Rattle.ec_clerk_steps.specs.JoinLaws.IsBeside s k m → Goes m
+    beside : (m : Msg) → Contains g.pool (c, m) → Rattle.ec_lawful.specs.OfClerkSteps.JoinLaws.IsBeside s k m → Goes m
     beside = cases.inside c g.pool k g.ghost (IsLined g c b) (first g whole c b k runs at-start) (greets g whole c b k runs at-start) (shows-old g whole c b k runs at-start) s within (ends g whole c b k runs at-start s within)
 
     inside : (m : Msg) → Contains g.pool (c, m) → AnswersNone k m → Goes m

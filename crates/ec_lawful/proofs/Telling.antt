@@ -11,8 +11,8 @@ use Rattle.ec_coherence.specs.Steps.{doing_in}
 use Rattle.ec_coherence.proofs.Tables.{at-put}
 use Rattle.ec_coherence.specs.CommitLaws.{AllAgree}
 use Rattle.ec_coherence.specs.StandLaws.{lined}
-use Rattle.ec_clerk_steps.specs.Trying.{AnswersWith}
-use Rattle.ec_laws.specs.Accounts.{LinesTell}
+use Rattle.ec_lawful.specs.OfClerkSteps.Trying.{AnswersWith}
+use Rattle.ec_history.specs.OfLaws.Accounts.{LinesTell}
 use Rattle.ec_lawful.specs.Headline.{FrontsAreLawful}
 use Rattle.ec_lawful.specs.HeadlineLaws.{TellsAll}
 use Rattle.ec_lawful.proofs.LinesTell.{line-tells}

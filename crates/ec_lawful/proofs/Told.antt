@@ -8,11 +8,11 @@ use Rattle.ec_base.specs.declared.counter.Counter.TheVariants as counter
 use Rattle.ec_base.specs.declared.ids.Age.{Age}
 use Rattle.ec_base.specs.declared.ids.Hold.{Hold}
 use Rattle.ec_volume.specs.declared.update.Update.{Update}
-use Rattle.ec_recall.specs.Due.{actions, wants_after}
-use Rattle.ec_recall.specs.declared.want.Action.{Action}
-use Rattle.ec_recall.specs.declared.want.Action.TheVariants as action
-use Rattle.ec_tokens.specs.Tokens.{claimed as with_claim, fits_back, first_clash, lowered, token}
-use Rattle.ec_tokens.specs.declared.token.Token.{Token}
+use Rattle.ec_sessions.specs.OfRecall.Due.{actions, wants_after}
+use Rattle.ec_sessions.specs.declared.recall.want.Action.{Action}
+use Rattle.ec_sessions.specs.declared.recall.want.Action.TheVariants as action
+use Rattle.ec_sessions.specs.OfTokens.Tokens.{claimed as with_claim, fits_back, first_clash, lowered, token}
+use Rattle.ec_sessions.specs.declared.tokens.token.Token.{Token}
 use Rattle.ec_sessions.specs.Slots.{Slots, greeting}
 use Rattle.ec_sessions.specs.Windows.{has}
 use Rattle.ec_sessions.specs.declared.slot.Greeting.{Greeting}

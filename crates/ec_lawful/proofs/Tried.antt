@@ -10,8 +10,8 @@ use Rattle.ec_history.specs.declared.entry.Answer.TheVariants as answer
 use Rattle.ec_log.specs.Log.{first, is_full, ops_are_spent}
 use Rattle.ec_log.specs.declared.state.Asked.{Asked}
 use Rattle.ec_log.specs.declared.state.Asked.TheVariants.{All}
-use Rattle.ec_resolve.specs.declared.verdict.Verdict.{Verdict}
-use Rattle.ec_resolve.specs.declared.verdict.Verdict.TheVariants.{Need, Lost, NeedIds, Done}
+use Rattle.ec_cache.specs.declared.resolve.verdict.Verdict.{Verdict}
+use Rattle.ec_cache.specs.declared.resolve.verdict.Verdict.TheVariants.{Need, Lost, NeedIds, Done}
 use Rattle.ec_protocol.specs.Clerk.{Doing, Tried, Waits, Answered, answer_with, ask_for, await, awaited, is_owing, issue_if_room, settle_outcome, spend, suits, try, try_verdict, verdict, with_clerk, with_update}
 use Rattle.ec_protocol.specs.declared.clerk.Clerk.{Clerk}
 use Rattle.ec_protocol.specs.declared.clerk.Out.TheVariants as out
@@ -19,17 +19,17 @@ use Rattle.ec_protocol.specs.declared.clerk.Waiting.{Waiting}
 use Rattle.ec_coherence.specs.System.{System, Ghost}
 use Rattle.ec_coherence.specs.Steps.{doing_in}
 use Rattle.ec_coherence.proofs.Tables.{same_some}
-use Rattle.ec_clerk_steps.specs.CallLaws.{is_answer}
-use Rattle.ec_clerk_steps.specs.Waits.{HasLine, does_wait}
-use Rattle.ec_clerk_steps.proofs.Still.{tries-answer}
+use Rattle.ec_lawful.specs.OfClerkSteps.CallLaws.{is_answer}
+use Rattle.ec_lawful.specs.OfClerkSteps.Waits.{HasLine, does_wait}
+use Rattle.ec_lawful.proofs.OfClerkSteps.Still.{tries-answer}
 use Rattle.ec_coherence.specs.Answers.{Gives}
-use Rattle.ec_clerk_steps.specs.Answering.{Suits, answered_clerk, done_clerk}
-use Rattle.ec_clerk_steps.specs.AnswerLaws.{IsTried}
-use Rattle.ec_clerk_steps.specs.Trying.{IsTrying}
-use Rattle.ec_clerk_steps.proofs.Single as single
-use Rattle.ec_clerk_steps.proofs.Singles.{tries-on}
-use Rattle.ec_clerk_steps.specs.Moves.{IsStill}
-use Rattle.ec_clerk_steps.proofs.Stilling.{are-still}
+use Rattle.ec_lawful.specs.OfClerkSteps.Answering.{Suits, answered_clerk, done_clerk}
+use Rattle.ec_lawful.specs.OfClerkSteps.AnswerLaws.{IsTried}
+use Rattle.ec_lawful.specs.OfClerkSteps.Trying.{IsTrying}
+use Rattle.ec_lawful.proofs.OfClerkSteps.Single as single
+use Rattle.ec_lawful.proofs.OfClerkSteps.Singles.{tries-on}
+use Rattle.ec_lawful.specs.OfClerkSteps.Moves.{IsStill}
+use Rattle.ec_lawful.proofs.OfClerkSteps.Stilling.{are-still}
 use Rattle.ec_lawful.specs.Whole.{ShowsAll}
 use Rattle.ec_lawful.proofs.Carrying.{same-shows}
 use Rattle.ec_lawful.proofs.Answering.{Comes, all-in, comes-so}

@@ -9,13 +9,13 @@ use Rattle.ec_coherence.specs.Steps.{doing_in}
 use Rattle.ec_coherence.proofs.Settling.{Keeping, all-keeps}
 use Rattle.ec_coherence.proofs.Try.{OnTried}
 use Rattle.ec_coherence.proofs.TriedList.{same-verdict}
-use Rattle.ec_clerk_steps.specs.CallLaws.{IsStillIf}
-use Rattle.ec_clerk_steps.specs.Waits.{HasLine}
-use Rattle.ec_clerk_steps.proofs.Quiet.{quiet-lines}
-use Rattle.ec_clerk_steps.proofs.Still.{tries-answer}
-use Rattle.ec_clerk_steps.specs.Trying.{IsTrying}
-use Rattle.ec_clerk_steps.proofs.Given.{spent-verdict}
-use Rattle.ec_clerk_steps.proofs.Single.{each-mid}
+use Rattle.ec_lawful.specs.OfClerkSteps.CallLaws.{IsStillIf}
+use Rattle.ec_lawful.specs.OfClerkSteps.Waits.{HasLine}
+use Rattle.ec_lawful.proofs.OfClerkSteps.Quiet.{quiet-lines}
+use Rattle.ec_lawful.proofs.OfClerkSteps.Still.{tries-answer}
+use Rattle.ec_lawful.specs.OfClerkSteps.Trying.{IsTrying}
+use Rattle.ec_lawful.proofs.OfClerkSteps.Given.{spent-verdict}
+use Rattle.ec_lawful.proofs.OfClerkSteps.Single.{each-mid}
 use Rattle.ec_lawful.specs.Whole.{ShowsAll}
 use Rattle.ec_lawful.specs.SettleLaws.{TriesAll}
 use Rattle.ec_lawful.specs.Rooms.{OneAnswers}

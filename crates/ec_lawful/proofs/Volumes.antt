@@ -16,7 +16,7 @@ use Rattle.ec_volume.specs.Volume as volume
 use Rattle.ec_volume.specs.Volume.{Images, images}
 use Rattle.ec_volume.specs.declared.image.Image.{Image}
 use Rattle.ec_history.specs.History.{Each}
-use Rattle.ec_laws.specs.Bases.{IsBase}
+use Rattle.ec_history.specs.OfLaws.Bases.{IsBase}
 use Rattle.ec_sessions.specs.Slots.{all_unspent}
 use Rattle.ec_durable.specs.WellFormed.{WellFormed}
 use Rattle.ec_durable.specs.declared.state.Durable.{Durable}
@@ -25,7 +25,7 @@ use Rattle.ec_coherence.proofs.Lists.{each-turn, either_way}
 use Rattle.ec_lawful.specs.Olds.{AreAtMost, base_above}
 use Rattle.ec_base.proofs.Bools.{left as and_first, not-tied, or-right as or_next, right as and_next, or_first, holds-true as holds}
 use Rattle.ec_base.proofs.Numbers.{equal}
-use Rattle.ec_laws.proofs.Entries.{dir-live}
+use Rattle.ec_history.proofs.OfLaws.Entries.{dir-live}
 
 -- An object that is live is one of the list's, and each is within its limits.
 

@@ -19,31 +19,31 @@ use Rattle.ec_log.specs.Log as log
 use Rattle.ec_log.specs.declared.state.Asked.{Asked}
 use Rattle.ec_log.specs.declared.state.Asked.TheVariants as asked
 use Rattle.ec_log.specs.declared.state.Pick.TheVariants as pick_of
-use Rattle.ec_resolve.specs.declared.verdict.Verdict.{Verdict}
-use Rattle.ec_resolve.specs.declared.verdict.Verdict.TheVariants.{Need, Lost, NeedIds, Done}
+use Rattle.ec_cache.specs.declared.resolve.verdict.Verdict.{Verdict}
+use Rattle.ec_cache.specs.declared.resolve.verdict.Verdict.TheVariants.{Need, Lost, NeedIds, Done}
 use Rattle.ec_protocol.specs.Server.{first_spent}
 use Rattle.ec_protocol.specs.Clerk.{Doing, Tried, Waits, answer_with, ask_anew, ask_for, ask_room, await, awaited, is_owing, is_wanted, issue, need_of, send_picked, send_want, settle_outcome, spend, suits, try, try_verdict, under_recall, verdict, want, wanted, with_clerk, with_update}
 use Rattle.ec_protocol.specs.declared.clerk.Waiting.{Waiting}
 use Rattle.ec_coherence.specs.System.{System, Ghost}
 use Rattle.ec_coherence.specs.Steps.{doing_in}
 use Rattle.ec_coherence.specs.Tokens.{Names, view}
-use Rattle.ec_clerk_steps.specs.CallLaws as calls
-use Rattle.ec_clerk_steps.proofs.Still.{still-ask, still-room, still-want}
-use Rattle.ec_clerk_steps.proofs.Turns.{still-turn}
-use Rattle.ec_clerk_steps.specs.Frames.{IsCalm}
-use Rattle.ec_clerk_steps.proofs.Calm.{are-calm}
-use Rattle.ec_clerk_steps.proofs.Going.{calm-keeps}
-use Rattle.ec_clerk_steps.specs.DoingLaws.{IsInHand}
-use Rattle.ec_clerk_steps.proofs.Hand.{asks, rooms, wants}
-use Rattle.ec_clerk_steps.proofs.Moving as moving
-use Rattle.ec_clerk_steps.proofs.Naming.{needs-named}
-use Rattle.ec_clerk_steps.proofs.Order.{ids-are-out}
-use Rattle.ec_clerk_steps.specs.Moves.{IsStill}
-use Rattle.ec_clerk_steps.proofs.Stilling.{are-still}
-use Rattle.ec_clerk_steps.proofs.FreesStored.{stills-keep}
-use Rattle.ec_clerk_steps.specs.Trying.{IsTrying}
-use Rattle.ec_clerk_steps.specs.ZeroLaws.{SameParts}
-use Rattle.ec_clerk_steps.proofs.Parts.{have-no-zero}
+use Rattle.ec_lawful.specs.OfClerkSteps.CallLaws as calls
+use Rattle.ec_lawful.proofs.OfClerkSteps.Still.{still-ask, still-room, still-want}
+use Rattle.ec_lawful.proofs.OfClerkSteps.Turns.{still-turn}
+use Rattle.ec_lawful.specs.OfClerkSteps.Frames.{IsCalm}
+use Rattle.ec_lawful.proofs.OfClerkSteps.Calm.{are-calm}
+use Rattle.ec_lawful.proofs.OfClerkSteps.Going.{calm-keeps}
+use Rattle.ec_lawful.specs.OfClerkSteps.DoingLaws.{IsInHand}
+use Rattle.ec_lawful.proofs.OfClerkSteps.Hand.{asks, rooms, wants}
+use Rattle.ec_lawful.proofs.OfClerkSteps.Moving as moving
+use Rattle.ec_lawful.proofs.OfClerkSteps.Naming.{needs-named}
+use Rattle.ec_lawful.proofs.OfClerkSteps.Order.{ids-are-out}
+use Rattle.ec_lawful.specs.OfClerkSteps.Moves.{IsStill}
+use Rattle.ec_lawful.proofs.OfClerkSteps.Stilling.{are-still}
+use Rattle.ec_lawful.proofs.OfClerkSteps.FreesStored.{stills-keep}
+use Rattle.ec_lawful.specs.OfClerkSteps.Trying.{IsTrying}
+use Rattle.ec_lawful.specs.OfClerkSteps.ZeroLaws.{SameParts}
+use Rattle.ec_lawful.proofs.OfClerkSteps.Parts.{have-no-zero}
 use Rattle.ec_lawful.specs.SettleLaws.{WaitsOn}
 use Rattle.ec_lawful.proofs.Carrying.{goes-on, in-hand, no-zero}
 use Rattle.ec_lawful.proofs.Readying.{nothing}

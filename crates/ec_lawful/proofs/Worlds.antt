@@ -7,9 +7,9 @@ use Rattle.ec_volume.specs.declared.image.Image.TheVariants.{Gone}
 use Rattle.ec_history.specs.History.{Throughout}
 use Rattle.ec_history.specs.Placing.{EachLine, place}
 use Rattle.ec_history.specs.declared.shown.Shown.TheVariants.{Unsettled}
-use Rattle.ec_laws.specs.Renaming.{image_by}
-use Rattle.ec_laws.specs.NewIds.{IsNewId}
-use Rattle.ec_laws.proofs.Reading.{read-by-places}
+use Rattle.ec_history.specs.OfLaws.Renaming.{image_by}
+use Rattle.ec_history.specs.OfLaws.NewIds.{IsNewId}
+use Rattle.ec_history.proofs.OfLaws.Reading.{read-by-places}
 use Rattle.ec_durable.specs.WellFormed.{WellFormed}
 use Rattle.ec_durable.specs.declared.state.Durable.{Durable}
 use Rattle.ec_protocol.specs.World.{moving, open_world}

@@ -16,13 +16,13 @@ use Rattle.ec_coherence.specs.Steps.{doing_in, less_call}
 use Rattle.ec_coherence.specs.Answers.{answered_ghost}
 use Rattle.ec_coherence.specs.CommitLaws.{AllAgree}
 use Rattle.ec_coherence.specs.StandLaws.{ClerkStands, IsUnderWay, lined}
-use Rattle.ec_clerk_steps.specs.Counts.{CountsAgree}
-use Rattle.ec_clerk_steps.specs.Cuts.{CutsAgree}
-use Rattle.ec_clerk_steps.specs.JoinLaws.{started}
+use Rattle.ec_lawful.specs.OfClerkSteps.Counts.{CountsAgree}
+use Rattle.ec_lawful.specs.OfClerkSteps.Cuts.{CutsAgree}
+use Rattle.ec_lawful.specs.OfClerkSteps.JoinLaws.{started}
 use Rattle.ec_lawful.specs.Steps.{LineIsNew, in_call}
-use Rattle.ec_clerk_steps.specs.Calls.{CallsAgree}
-use Rattle.ec_clerk_steps.specs.Waits.{AreAtRest, AreInTurn}
-use Rattle.ec_clerk_steps.specs.Zeros.{ZerosAgree}
+use Rattle.ec_lawful.specs.OfClerkSteps.Calls.{CallsAgree}
+use Rattle.ec_lawful.specs.OfClerkSteps.Waits.{AreAtRest, AreInTurn}
+use Rattle.ec_lawful.specs.OfClerkSteps.Zeros.{ZerosAgree}
 
 -- The step stands, its clerk is in no session or in that of the step, and its calls are in turn.
 pub record HasBegun (g : System) (c b : ℕ) (d : Doing) (γ : Ghost) : Type 0 where

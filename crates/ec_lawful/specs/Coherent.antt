@@ -6,7 +6,7 @@ use Rattle.ec_base.specs.Tables.{at}
 use Rattle.ec_volume.specs.Volume.{AllReached, Images, Fits, WellFormed, after}
 use Rattle.ec_history.specs.History.{Base, History, Op, Throughout, kept, updates}
 use Rattle.ec_history.specs.Placing.{place}
-use Rattle.ec_laws.specs.Renaming.{image_by}
+use Rattle.ec_history.specs.OfLaws.Renaming.{image_by}
 use Rattle.ec_sessions.specs.declared.slot.Slot.{Slot}
 use Rattle.ec_durable.specs.Durable.{slot}
 use Rattle.ec_cache.specs.declared.state.Held.{Held}

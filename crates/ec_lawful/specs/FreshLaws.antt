@@ -8,7 +8,7 @@ use Rattle.ec_history.specs.declared.shown.Shown.{Shown}
 use Rattle.ec_history.specs.declared.shown.Shown.TheVariants.{Answered}
 use Rattle.ec_volume.specs.Update.{member}
 use Rattle.ec_protocol.specs.declared.clerk.Clerk.{Clerk}
-use Rattle.ec_report.specs.Report.{Owed}
+use Rattle.ec_cache.specs.OfReport.Report.{Owed}
 use Rattle.ec_wire.specs.declared.msg.Msg.{Msg}
 use Rattle.ec_protocol.specs.Clerk.{Doing, taken, verdict}
 use Rattle.ec_protocol.specs.declared.clerk.Waiting.{Waiting}
@@ -16,12 +16,12 @@ use Rattle.ec_coherence.specs.System.{System, Ghost, with_start}
 use Rattle.ec_coherence.specs.Steps.{doing_in}
 use Rattle.ec_coherence.specs.Tokens.{Fits, is_untaken, side, view}
 use Rattle.ec_coherence.specs.CommitLaws.{AllAgree}
-use Rattle.ec_clerk_steps.specs.DoingLaws.{IsIds, IsInHand}
-use Rattle.ec_clerk_steps.specs.Names.{NamesAgree}
+use Rattle.ec_lawful.specs.OfClerkSteps.DoingLaws.{IsIds, IsInHand}
+use Rattle.ec_lawful.specs.OfClerkSteps.Names.{NamesAgree}
 use Rattle.ec_coherence.specs.Answers.{Gives}
-use Rattle.ec_clerk_steps.specs.Answering.{Suits, answered_clerk}
-use Rattle.ec_clerk_steps.specs.Trying.{AnswersWith, IsTrying}
-use Rattle.ec_clerk_steps.specs.Zeros.{ZerosAgree}
+use Rattle.ec_lawful.specs.OfClerkSteps.Answering.{Suits, answered_clerk}
+use Rattle.ec_lawful.specs.OfClerkSteps.Trying.{AnswersWith, IsTrying}
+use Rattle.ec_lawful.specs.OfClerkSteps.Zeros.{ZerosAgree}
 use Rattle.ec_lawful.specs.Creates.{creates}
 use Rattle.ec_lawful.specs.FreshIds.{AreQuiet}
 use Rattle.ec_lawful.specs.Fresh.{FreshAgrees, Hidden, Stored, Taken}

@@ -5,9 +5,9 @@ use Rattle.ec_plain.specs.declared.call.Call.{Call}
 use Rattle.ec_protocol.specs.Clerk.{Doing}
 use Rattle.ec_coherence.specs.System.{System, Ghost}
 use Rattle.ec_coherence.specs.Steps.{call_of, calls_after, doing_in}
-use Rattle.ec_clerk_steps.specs.Calls.{is_shown}
-use Rattle.ec_clerk_steps.specs.Waits.{HasLine}
-use Rattle.ec_clerk_steps.specs.Trying.{IsTrying}
+use Rattle.ec_lawful.specs.OfClerkSteps.Calls.{is_shown}
+use Rattle.ec_lawful.specs.OfClerkSteps.Waits.{HasLine}
+use Rattle.ec_lawful.specs.OfClerkSteps.Trying.{IsTrying}
 
 -- where each call that was under way has its line, or was answered in the step
 abbrev pub StepsEndLined : Type 0

@@ -5,7 +5,7 @@ use Rattle.ec_volume.specs.Volume.{images}
 use Rattle.ec_history.specs.declared.shown.Shown.{Shown}
 use Rattle.ec_coherence.specs.System.{System, base_of}
 use Rattle.ec_coherence.specs.CommitLaws.{AllAgree}
-use Rattle.ec_laws.specs.Accounts.{LinesTell}
+use Rattle.ec_history.specs.OfLaws.Accounts.{LinesTell}
 use Rattle.ec_lawful.specs.Headline.{FrontsAreLawful}
 use Rattle.ec_lawful.specs.LawfulRuns.{ShowLawfully}
 

@@ -32,3 +32,5 @@ pub mod Coherent
 pub mod Reached
 pub mod ReachedWorlds
 pub mod ReachedLaws
+pub mod OfClerkSteps
+pub mod OfClerkLaws

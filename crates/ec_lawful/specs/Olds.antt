@@ -5,7 +5,7 @@ use Rattle.ec_volume.specs.Image.{entries_of, is_gone}
 use Rattle.ec_volume.specs.Volume as volume
 use Rattle.ec_volume.specs.Volume.{Images, images}
 use Rattle.ec_history.specs.History.{Base, Each, Op}
-use Rattle.ec_laws.specs.Bases.{IsBase}
+use Rattle.ec_history.specs.OfLaws.Bases.{IsBase}
 use Rattle.ec_sessions.specs.Slots.{Slots, ended}
 use Rattle.ec_durable.specs.Durable.{slot}
 use Rattle.ec_durable.specs.WellFormed.{WellFormed}

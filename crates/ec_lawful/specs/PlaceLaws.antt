@@ -6,7 +6,7 @@ use Rattle.ec_history.specs.History.{Throughout, kept, updates}
 use Rattle.ec_history.specs.Lines.{IsStored}
 use Rattle.ec_history.specs.Placing.{place}
 use Rattle.ec_history.specs.declared.shown.Shown.{Shown}
-use Rattle.ec_laws.specs.NewIds.{IsNewId}
+use Rattle.ec_history.specs.OfLaws.NewIds.{IsNewId}
 use Rattle.ec_coherence.specs.System.{System, base_of}
 use Rattle.ec_lawful.specs.Headline.{FrontsAreLawful, placed_on}
 use Rattle.ec_lawful.specs.Fresh.{FreshAgrees}

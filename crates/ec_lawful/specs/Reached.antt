@@ -3,7 +3,7 @@ use Rattle.std.specs.Prelude.{ℕ}
 use Rattle.ec_volume.specs.Volume.{Images}
 use Rattle.ec_history.specs.Placing.{place}
 use Rattle.ec_protocol.specs.declared.world.World.{World}
-use Rattle.ec_laws.specs.Placing.{IsReading}
+use Rattle.ec_history.specs.OfLaws.Placing.{IsReading}
 use Rattle.ec_lawful.specs.Headline.{FrontsAreLawful, IsGreatest, placed_on}
 use Rattle.ec_lawful.specs.Coherent.{AreFitting, IsCoherent}
 

@@ -7,7 +7,7 @@ use Rattle.ec_history.specs.History.{Base}
 use Rattle.ec_history.specs.Legal.{IsLegal}
 use Rattle.ec_history.specs.Placing.{place}
 use Rattle.ec_history.specs.declared.shown.Shown.{Shown}
-use Rattle.ec_laws.specs.Bases.{IsBase, is_bounded_entry}
+use Rattle.ec_history.specs.OfLaws.Bases.{IsBase, is_bounded_entry}
 use Rattle.ec_durable.specs.WellFormed.{WellFormed}
 use Rattle.ec_durable.specs.declared.state.Durable.{Durable}
 use Rattle.ec_protocol.specs.Drill.{Fates, Read, bound, run_from}

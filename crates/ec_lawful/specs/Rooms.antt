@@ -8,11 +8,11 @@ use Rattle.ec_protocol.specs.declared.clerk.Out.TheVariants as out
 use Rattle.ec_protocol.specs.declared.clerk.Waiting.{Waiting}
 use Rattle.ec_coherence.specs.System.{System, Ghost}
 use Rattle.ec_coherence.specs.Steps.{doing_in}
-use Rattle.ec_clerk_steps.specs.CallLaws.{Passes}
-use Rattle.ec_clerk_steps.specs.Waits.{HasLine}
+use Rattle.ec_lawful.specs.OfClerkSteps.CallLaws.{Passes}
+use Rattle.ec_lawful.specs.OfClerkSteps.Waits.{HasLine}
 use Rattle.ec_coherence.specs.Answers.{Gives}
-use Rattle.ec_clerk_steps.specs.Answering.{Suits, answered_clerk}
-use Rattle.ec_clerk_steps.specs.Trying.{IsTrying}
+use Rattle.ec_lawful.specs.OfClerkSteps.Answering.{Suits, answered_clerk}
+use Rattle.ec_lawful.specs.OfClerkSteps.Trying.{IsTrying}
 
 -- The step under way stands with all facts and this one, and each waiting call has its line.
 pub record IsCarried (g : System) (c b : ℕ) (Q : Doing → Ghost → Type 0) (d : Doing) (γ : Ghost) : Type 0 where

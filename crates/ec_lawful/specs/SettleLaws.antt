@@ -11,13 +11,13 @@ use Rattle.ec_coherence.specs.System.{System, Ghost}
 use Rattle.ec_coherence.specs.Sessions as sessions
 use Rattle.ec_coherence.specs.Tokens.{Fits, view}
 use Rattle.ec_coherence.specs.Steps.{doing_in}
-use Rattle.ec_clerk_steps.specs.CallLaws.{prepared}
-use Rattle.ec_clerk_steps.specs.Waits.{HasLine, IsAtRest, NoneReady, does_wait}
-use Rattle.ec_clerk_steps.specs.Orderly.{OrderlyAgree}
-use Rattle.ec_clerk_steps.specs.Counts.{CountsAgree}
+use Rattle.ec_lawful.specs.OfClerkSteps.CallLaws.{prepared}
+use Rattle.ec_lawful.specs.OfClerkSteps.Waits.{HasLine, IsAtRest, NoneReady, does_wait}
+use Rattle.ec_lawful.specs.OfClerkSteps.Orderly.{OrderlyAgree}
+use Rattle.ec_lawful.specs.OfClerkSteps.Counts.{CountsAgree}
 use Rattle.ec_lawful.specs.Doubts.{DoubtAgrees}
-use Rattle.ec_clerk_steps.specs.Frees.{FullsAgree}
-use Rattle.ec_clerk_steps.specs.Trying.{IsTrying}
+use Rattle.ec_lawful.specs.OfClerkSteps.Frees.{FullsAgree}
+use Rattle.ec_lawful.specs.OfClerkSteps.Trying.{IsTrying}
 use Rattle.ec_lawful.specs.Steps.{StepIsDone}
 use Rattle.ec_lawful.specs.Whole.{ShowsAll, Whole}
 

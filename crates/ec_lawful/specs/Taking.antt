@@ -5,7 +5,7 @@ use Rattle.ec_wire.specs.declared.msg.Msg.TheVariants.{NoRoom}
 use Rattle.ec_protocol.specs.Clerk.{doing, is_session, take, taken}
 use Rattle.ec_protocol.specs.declared.clerk.Clerk.{Clerk}
 use Rattle.ec_coherence.specs.System.{System}
-use Rattle.ec_clerk_steps.specs.JoinLaws.{ghosts_joined}
+use Rattle.ec_lawful.specs.OfClerkSteps.JoinLaws.{ghosts_joined}
 use Rattle.ec_lawful.specs.SettleLaws.{IsLined, TriesAll}
 use Rattle.ec_lawful.specs.Steps.{StepIsDone}
 use Rattle.ec_lawful.specs.Whole.{Whole}

@@ -1,14 +1,14 @@
 -- All facts of a system, taken together.
 use Rattle.ec_coherence.specs.System.{System}
 use Rattle.ec_coherence.specs.CommitLaws.{AllAgree}
-use Rattle.ec_clerk_steps.specs.Calls.{CallsAgree}
-use Rattle.ec_clerk_steps.specs.Waits.{AreAtRest}
-use Rattle.ec_clerk_steps.specs.Orderly.{OrderlyAgree}
-use Rattle.ec_clerk_steps.specs.Names.{NamesAgree}
-use Rattle.ec_clerk_steps.specs.Cuts.{CutsAgree}
-use Rattle.ec_clerk_steps.specs.Counts.{CountsAgree}
-use Rattle.ec_clerk_steps.specs.Zeros.{ZerosAgree}
-use Rattle.ec_clerk_steps.specs.Frees.{FreesAgree, FullsAgree}
+use Rattle.ec_lawful.specs.OfClerkSteps.Calls.{CallsAgree}
+use Rattle.ec_lawful.specs.OfClerkSteps.Waits.{AreAtRest}
+use Rattle.ec_lawful.specs.OfClerkSteps.Orderly.{OrderlyAgree}
+use Rattle.ec_lawful.specs.OfClerkSteps.Names.{NamesAgree}
+use Rattle.ec_lawful.specs.OfClerkSteps.Cuts.{CutsAgree}
+use Rattle.ec_lawful.specs.OfClerkSteps.Counts.{CountsAgree}
+use Rattle.ec_lawful.specs.OfClerkSteps.Zeros.{ZerosAgree}
+use Rattle.ec_lawful.specs.OfClerkSteps.Frees.{FreesAgree, FullsAgree}
 use Rattle.ec_lawful.specs.Doubts.{DoubtAgrees}
 use Rattle.ec_lawful.specs.HeadlineLaws.{TellsAll}
 use Rattle.ec_lawful.specs.Fresh.{FreshAgrees}

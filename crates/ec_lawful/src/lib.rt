@@ -4,6 +4,8 @@
 
 mod asked;
 mod begins;
+pub mod clerk_laws;
+pub mod clerk_steps;
 mod found;
 mod fresh;
 mod headline;

@@ -3,3 +3,8 @@ pub mod Leases
 pub mod Drill
 pub mod Runs
 pub mod Rows
+pub mod OfLeaseRuns
+pub mod OfQueues
+pub mod OfLeaseLaws
+pub mod OfTimely
+pub mod OfLeaseWorlds

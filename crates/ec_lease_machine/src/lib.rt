@@ -2,8 +2,13 @@
 //! it shows of them. The steps are functions in `specs/`. The functions here carry facts alone and do nothing.
 #![tactic(auto)]
 
+pub mod lease_laws;
+pub mod lease_runs;
+pub mod lease_worlds;
+pub mod queues;
 pub mod rules;
 mod script;
+pub mod timely;
 mod world;
 
 pub use script::LeaseLine;

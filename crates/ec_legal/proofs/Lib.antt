@@ -6,3 +6,4 @@ mod Judged
 pub mod Begun
 pub mod Tried
 pub mod Before
+pub mod OfTranscript

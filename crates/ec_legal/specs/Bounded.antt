@@ -4,7 +4,7 @@ use Rattle.ec_plain.specs.BoundedCalls.{is_bounded}
 use Rattle.ec_history.specs.History.{History, Each}
 use Rattle.ec_history.specs.declared.shown.Shown.{Shown}
 use Rattle.ec_history.specs.declared.shown.Shown.TheVariants.{Waits, Answered}
-use Rattle.ec_laws.specs.Bases.{AreAtLines}
+use Rattle.ec_history.specs.OfLaws.Bases.{AreAtLines}
 
 abbrev pub is_bounded_line : Shown → Bool
 is_bounded_line (Waits l c cl) = is_bounded cl

@@ -4,3 +4,4 @@ pub mod Bounded
 pub mod Ahead
 pub mod Tried
 pub mod Fronts
+pub mod OfTranscript

@@ -1,7 +1,7 @@
 // Lines are judged as they come, placed and judged side by side.
 ghost use Rattle.std.specs.Prelude.{◌≡◌, ◌≤◌, ◌<◌, ◌+◌, ◌-◌, ◌^◌, ◌++◌, [], ℕ, List as Listed, T, true, false, take, length, IfOk, OnOk, IfErr};
 ghost use Rattle.std.specs.List.{list_all};
-ghost use Rattle.ec_laws.specs.Bases.{AreAtLines};
+ghost use Rattle.ec_history.specs.OfLaws.Bases.{AreAtLines};
 ghost use Rattle.ec_history.specs.declared.shown.Shown.{Shown as Line};
 ghost use Rattle.ec_history.specs.History.{Each};
 ghost use Rattle.ec_history.specs.Legal.{IsLegal, from_formatted};

@@ -1,7 +1,7 @@
 -- The body of a frame, and what several reads add.
 use Rattle.std.proofs.Common.{◌≡◌, ℕ, List, [], ◌∷◌, ◌++◌, drop, length, sym, ap, ◌∙◌, subst, append_assoc, refl}
-use Rattle.ec_frame.specs.Frames.{header, frame, Begins, BeginsLong, BeginsNone}
-use Rattle.ec_frame.specs.FrameLaws.{length-header}
+use Rattle.ec_streams.specs.OfFrame.Frames.{header, frame, Begins, BeginsLong, BeginsNone}
+use Rattle.ec_streams.specs.OfFrame.FrameLaws.{length-header}
 use Rattle.ec_link.specs.declared.link.Sent.{Sent}
 use Rattle.ec_link.specs.declared.link.Sent.TheVariants as sent
 use Rattle.ec_link.specs.declared.link.Got.{Got}

@@ -1,6 +1,6 @@
 -- What a link's answers to one send or receive come to.
 use Rattle.std.specs.Prelude.{◌≡◌, ℕ, List, [], ◌∷◌, ◌++◌}
-use Rattle.ec_frame.specs.Frames.{Begins, BeginsLong, BeginsNone}
+use Rattle.ec_streams.specs.OfFrame.Frames.{Begins, BeginsLong, BeginsNone}
 use Rattle.ec_link.specs.declared.link.Sent.{Sent}
 use Rattle.ec_link.specs.declared.link.Sent.TheVariants as sent
 use Rattle.ec_link.specs.declared.link.Got.{Got}

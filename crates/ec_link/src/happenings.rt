@@ -4,7 +4,7 @@ ghost use Rattle.ec_link.specs.Links.{body, long};
 ghost use Rattle.ec_link.specs.Happenings.{fault_at, faults_in};
 ghost use Rattle.ec_link.specs.HappeningBodies.{close_at, given_at, got_at, closes_in, given_in, got_in, More};
 
-use ec_trace::Trace;
+use ec_base::trace::Trace;
 use std::snapshot::Snapshot;
 
 /// One thing that happened at a link.

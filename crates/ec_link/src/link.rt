@@ -1,6 +1,6 @@
 // One end of a link, with its counts and, where it tells them, the bodies that it gave and got.
 ghost use Rattle.std.specs.Prelude.{◌≡◌, ℕ, ◌+◌, ◌≤◌, Bool, List, Option};
-ghost use Rattle.ec_frame.specs.Frames.{IsBody};
+ghost use Rattle.ec_streams.specs.OfFrame.Frames.{IsBody};
 ghost use Rattle.ec_link.specs.declared.link.Sent.TheVariants as sent;
 ghost use Rattle.ec_link.specs.Links.{Heard, added};
 ghost use Rattle.ec_link.specs.LinkAnswers.{failed, fault_of, close_of, heard, carried, Reads};

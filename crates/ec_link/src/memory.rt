@@ -1,7 +1,7 @@
 // Links in memory: two ends in one process.
 ghost use Rattle.std.specs.Prelude.{◌≡◌, ℕ, [], ◌++◌, List, drop, IfOk, IfSome, IfNone};
 ghost use Rattle.ec_base.specs.Outside.{one_more};
-ghost use Rattle.ec_frame.specs.Frames.{BeginsNone};
+ghost use Rattle.ec_streams.specs.OfFrame.Frames.{BeginsNone};
 ghost use Rattle.ec_link.specs.declared.link.Sent.TheVariants as sent;
 ghost use Rattle.ec_link.specs.LinkAnswers.{failed, fault_of, close_of, heard, carried, Reads};
 ghost use Rattle.ec_link.specs.HappeningBodies.{More};
@@ -15,7 +15,7 @@ use crate::link::{Got, Link, Sent};
 use crate::net::NetFault;
 use crossbeam_channel::{Receiver, Sender, TryRecvError, unbounded};
 use ec_base::NoMemory;
-use ec_frame::{FrameFault, Frames, frame};
+use ec_streams::frame::{FrameFault, Frames, frame};
 use std::alloc::Global;
 use std::snapshot::Snapshot;
 use std::sync::atomic::AtomicU64;

@@ -13,7 +13,7 @@ use crate::memory::{Line, MemLink, lines};
 use crate::net::{Net, NetFault};
 use crossbeam_channel::{Receiver, Sender, TryRecvError, unbounded};
 use ec_base::NoMemory;
-use ec_trace::Trace;
+use ec_base::trace::Trace;
 use std::alloc::Global;
 use std::io;
 use std::net::SocketAddr;

@@ -1,6 +1,6 @@
 // Links over TCP.
 ghost use Rattle.std.specs.Prelude.{◌≡◌, ℕ, [], ◌++◌, List, drop, IfOk, IfSome, IfNone};
-ghost use Rattle.ec_frame.specs.Frames.{BeginsNone};
+ghost use Rattle.ec_streams.specs.OfFrame.Frames.{BeginsNone};
 ghost use Rattle.ec_link.specs.declared.link.Sent.TheVariants as sent;
 ghost use Rattle.ec_link.specs.LinkAnswers.{failed, fault_of, close_of, heard, carried, Reads};
 ghost use Rattle.ec_link.specs.HappeningBodies.{More};
@@ -15,7 +15,7 @@ use crate::net::NetFault;
 use crate::rest::Rests;
 use crate::tcp_bell::{Parts, TcpBell};
 use ec_base::NoMemory;
-use ec_frame::{FrameFault, Frames, frame};
+use ec_streams::frame::{FrameFault, Frames, frame};
 use std::alloc::Global;
 use std::io::{self, ErrorKind, Read, Write};
 use std::net::{Net, Shutdown, TcpStream};

@@ -11,7 +11,7 @@ use crate::tcp::TcpLink;
 use crate::tcp_bell::TcpBell;
 use crate::tcp_door::{TcpDoor, take_socket};
 use ec_base::NoMemory;
-use ec_trace::Trace;
+use ec_base::trace::Trace;
 use std::alloc::Global;
 use std::io;
 use std::net::{SocketAddr, TcpListener, TcpStream};

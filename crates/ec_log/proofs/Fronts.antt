@@ -14,7 +14,7 @@ use Rattle.ec_volume.specs.Update.{member}
 use Rattle.ec_volume.specs.declared.update.Update.{Update}
 use Rattle.ec_order.specs.Order.{Issued}
 use Rattle.ec_sessions.specs.Limits.{max_batch_ops}
-use Rattle.ec_chains.specs.Front.{IsFront}
+use Rattle.ec_log.specs.OfChains.Front.{IsFront}
 use Rattle.ec_log.specs.Choice.{numbers_asked}
 use Rattle.ec_log.specs.Chosen.{ask_of, closure_in, is_met, IsFrontOf, chosen, choice, unless_behind, new_batch, full_from, batch_number as number_of}
 use Rattle.ec_log.specs.Log.{has_one_of, is_asked, pick}

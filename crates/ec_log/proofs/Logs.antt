@@ -7,12 +7,12 @@ use Rattle.ec_base.specs.Tables.{Table, at, or_else, without, keys}
 use Rattle.ec_volume.specs.Update.{member}
 use Rattle.ec_volume.specs.declared.update.Update.{Update}
 use Rattle.ec_order.specs.Order.{Issued}
-use Rattle.ec_chains.specs.Held as held
-use Rattle.ec_chains.specs.Held.{is_behind}
-use Rattle.ec_chains.specs.SlotLaws.{live-next}
-use Rattle.ec_chains.specs.Slots.{Slots, with_one, live}
-use Rattle.ec_chains.specs.Walk.{passes}
-use Rattle.ec_chains.specs.declared.closure.Ask.TheVariants.{All}
+use Rattle.ec_log.specs.OfChains.Held as held
+use Rattle.ec_log.specs.OfChains.Held.{is_behind}
+use Rattle.ec_log.specs.OfChains.SlotLaws.{live-next}
+use Rattle.ec_log.specs.OfChains.Slots.{Slots, with_one, live}
+use Rattle.ec_log.specs.OfChains.Walk.{passes}
+use Rattle.ec_log.specs.declared.chains.closure.Ask.TheVariants.{All}
 use Rattle.ec_log.specs.Chosen.{ask_of}
 use Rattle.ec_log.specs.Log.{first_number, is_asked, kept}
 use Rattle.ec_log.specs.LogOrder.{is_from}

@@ -8,8 +8,8 @@ use Rattle.ec_sessions.specs.Windows.{has}
 use Rattle.ec_sessions.specs.declared.window.Window.{Window}
 use Rattle.ec_sessions.specs.Limits.{max_batch_ops, window_size}
 use Rattle.ec_log.specs.Log.{is_asked, has_one_of}
-use Rattle.ec_chains.specs.declared.closure.Ask.{Ask}
-use Rattle.ec_chains.specs.declared.closure.Ask.TheVariants as ask
+use Rattle.ec_log.specs.declared.chains.closure.Ask.{Ask}
+use Rattle.ec_log.specs.declared.chains.closure.Ask.TheVariants as ask
 use Rattle.ec_log.specs.declared.state.Asked.{Asked}
 use Rattle.ec_log.specs.declared.state.Asked.TheVariants as asked_of
 use Rattle.ec_log.specs.declared.state.Pick.{Pick}

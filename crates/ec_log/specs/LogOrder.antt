@@ -4,7 +4,7 @@ use Rattle.std.specs.FinMap.{is_sorted}
 use Rattle.std.specs.List.{list_all}
 use Rattle.std.specs.Ordering.{nat_cmp}
 use Rattle.ec_order.specs.Order.{Issued}
-use Rattle.ec_chains.specs.Held.{is_behind}
+use Rattle.ec_log.specs.OfChains.Held.{is_behind}
 use Rattle.ec_log.specs.declared.state.Pick.{Pick}
 use Rattle.ec_log.specs.declared.state.Pick.TheVariants as pick_of
 use Rattle.ec_log.specs.declared.state.LogState.{LogState}

@@ -7,10 +7,10 @@ ghost use Rattle.ec_log.specs.Log.{is_asked, first_number};
 ghost use Rattle.ec_log.specs.Choice.{numbers_asked};
 ghost use Rattle.ec_log.specs.Chosen.{ask_of, IsFrontOf};
 
+use crate::chains::{Ask, Order, has_operand};
 use crate::limits::MAX_BATCH_OPS;
 use crate::state::Asked;
 use ec_base::{NoMemory, OpNo};
-use ec_chains::{Ask, Order, has_operand};
 use ec_volume::Update;
 
 fn is_asked(asked: &Asked, op: OpNo, update: &Update) -> bool

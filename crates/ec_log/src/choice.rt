@@ -3,17 +3,17 @@ ghost use Rattle.std.specs.Prelude.{◌≡◌, ◌&&◌, ◌||◌, true, not, fi
 ghost use Rattle.std.specs.List.{list_any};
 ghost use Rattle.ec_base.specs.Tables.{keys, first};
 ghost use Rattle.ec_volume.specs.Update.{member};
-ghost use Rattle.ec_chains.specs.Slots.{live};
+ghost use Rattle.ec_log.specs.OfChains.Slots.{live};
 ghost use Rattle.ec_sessions.specs.Windows.{has};
 ghost use Rattle.ec_log.specs.Choice as choice;
 ghost use Rattle.ec_log.specs.Chosen as chosen;
 ghost use Rattle.ec_base.specs.SmallLaws.{rises};
 
 use crate::asked::is_asked_for;
+use crate::chains::{Order, Slot};
 use crate::limits::{MAX_BATCH_OPS, WINDOW_SIZE};
 use crate::state::{Asked, Pick};
 use ec_base::{Duplicate, List, NoMemory, OpNo};
-use ec_chains::{Order, Slot};
 use ec_sessions::Window;
 use ec_volume::Update;
 use std::alloc::Global;

@@ -3,18 +3,18 @@ ghost use Rattle.std.specs.Prelude.{◌≡◌, ℕ, true, false, List, length, O
 ghost use Rattle.ec_base.specs.Tables.{at, keys};
 ghost use Rattle.ec_base.specs.declared.counter.Counter.{Counter as Kind};
 ghost use Rattle.ec_base.specs.declared.counter.Counter.TheVariants as counter;
-ghost use Rattle.ec_chains.specs.Slots.{live};
+ghost use Rattle.ec_log.specs.OfChains.Slots.{live};
 ghost use Rattle.ec_log.specs.Log as log;
 ghost use Rattle.ec_log.specs.LogOrder as log_order;
 ghost use Rattle.ec_log.specs.declared.state.LogFault.TheVariants as fault;
 ghost use Rattle.ec_log.specs.declared.state.Pick.TheVariants as picked;
 
 use crate::asked::{first_asked, front_of};
+use crate::chains::{Ask, Order, Slot};
 use crate::choice::{choose, first_met, lost_of, those_in};
 use crate::limits::MAX_UNDURABLE;
 use crate::state::{Asked, LogFault, Pick};
 use ec_base::{Counter, Duplicate, LAST_COUNTER, List, NoMemory, OpNo, SortedMap};
-use ec_chains::{Ask, Order, Slot};
 use ec_sessions::Window;
 use ec_volume::Update;
 use std::alloc::Global;
@@ -48,7 +48,7 @@ impl Drop for Log {
 
 impl Model for Log {
     ghost use Rattle.std.specs.Prelude.{◌≡◌, ◌≤◌, true};
-    ghost use Rattle.ec_chains.specs.Held.{is_behind};
+    ghost use Rattle.ec_log.specs.OfChains.Held.{is_behind};
     ghost use Rattle.ec_log.specs.LogOrder.{is_from};
     ghost use Rattle.ec_log.specs.Chosen.{all_rise};
     ghost use Rattle.ec_log.specs.declared.state.LogState.{LogState};

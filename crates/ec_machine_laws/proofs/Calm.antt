@@ -10,10 +10,10 @@ use Rattle.ec_base.specs.Holds.{is_free, clash}
 use Rattle.ec_base.specs.SortedLaws.{first, second}
 use Rattle.ec_base.specs.declared.ids.Hold.{Hold}
 use Rattle.ec_base.specs.declared.ids.Hold.TheVariants.{Free, Read, Write}
-use Rattle.ec_tokens.specs.Laws.{holder_has}
-use Rattle.ec_tokens.specs.Tokens.{Tokens, Holder, row_of, token, mode, held_by, holders, is_conflict, conflicts}
-use Rattle.ec_tokens.specs.SoundTokens.{IsSound}
-use Rattle.ec_tokens.specs.declared.token.Token.{Token}
+use Rattle.ec_sessions.specs.OfTokens.Laws.{holder_has}
+use Rattle.ec_sessions.specs.OfTokens.Tokens.{Tokens, Holder, row_of, token, mode, held_by, holders, is_conflict, conflicts}
+use Rattle.ec_sessions.specs.OfTokens.SoundTokens.{IsSound}
+use Rattle.ec_sessions.specs.declared.tokens.token.Token.{Token}
 use Rattle.ec_machine_laws.specs.Holding.{IsWriter, AreReaders}
 use Rattle.ec_machine_laws.proofs.Rows.{absent}
 use Rattle.ec_base.proofs.Options.{none-some}

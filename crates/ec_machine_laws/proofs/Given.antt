@@ -9,15 +9,15 @@ use Rattle.ec_base.specs.Sorted.{without}
 use Rattle.ec_base.specs.declared.ids.Hold.{Hold}
 use Rattle.ec_base.specs.declared.ids.Hold.TheVariants.{Write}
 use Rattle.ec_volume.specs.Update.{member}
-use Rattle.ec_tokens.specs.Laws.{holder_has, sound_granted, token-granted}
-use Rattle.ec_tokens.specs.Tokens.{Row, Tokens, Holder, row_of, row, token, holders, first_holder, is_conflict, is_clear, granted, lowered_in, with_row, lowered}
-use Rattle.ec_tokens.specs.SoundTokens.{IsSound}
-use Rattle.ec_tokens.specs.declared.token.Token.{Token}
+use Rattle.ec_sessions.specs.OfTokens.Laws.{holder_has, sound_granted, token-granted}
+use Rattle.ec_sessions.specs.OfTokens.Tokens.{Row, Tokens, Holder, row_of, row, token, holders, first_holder, is_conflict, is_clear, granted, lowered_in, with_row, lowered}
+use Rattle.ec_sessions.specs.OfTokens.SoundTokens.{IsSound}
+use Rattle.ec_sessions.specs.declared.tokens.token.Token.{Token}
 use Rattle.ec_protocol.specs.Server.{with_ids}
 use Rattle.ec_machine_laws.specs.Holding.{left_at, AreOwn}
 use Rattle.ec_machine_laws.proofs.Rows.{found-put, found-without, found-lowered, row-of-found}
 use Rattle.ec_base.proofs.Numbers.{same-self}
-use Rattle.ec_laws.proofs.Sets.{behind}
+use Rattle.ec_history.proofs.OfLaws.Sets.{behind}
 
 -- Tokens given back.
 

@@ -29,3 +29,5 @@ pub mod Trying
 pub mod Taking
 pub mod Watching
 pub mod Answering
+pub mod OfAppliedOnce
+pub mod OfNodeLaws

@@ -16,15 +16,15 @@ use Rattle.ec_plain.specs.declared.call.Call.{Call}
 use Rattle.ec_plain.specs.declared.call.Call.TheVariants as call
 use Rattle.ec_cache.specs.Cache.{holds, images_held}
 use Rattle.ec_cache.specs.declared.state.CacheState.{CacheState}
-use Rattle.ec_report.specs.Report.{Owed}
-use Rattle.ec_laws.proofs.Touching.{plain-touches}
-use Rattle.ec_resolve.specs.Agreement.{Shows, IsFor, IsFirst, IsNeeded, is_unread, is_unwritten}
-use Rattle.ec_resolve.specs.Resolve.{evaluate}
-use Rattle.ec_resolve.specs.declared.verdict.Verdict.TheVariants.{Need, NeedIds}
+use Rattle.ec_cache.specs.OfReport.Report.{Owed}
+use Rattle.ec_history.proofs.OfLaws.Touching.{plain-touches}
+use Rattle.ec_cache.specs.OfResolve.Agreement.{Shows, IsFor, IsFirst, IsNeeded, is_unread, is_unwritten}
+use Rattle.ec_cache.specs.OfResolve.Resolve.{evaluate}
+use Rattle.ec_cache.specs.declared.resolve.verdict.Verdict.TheVariants.{Need, NeedIds}
 use Rattle.ec_machine_laws.specs.Needs.{IsCreate}
-use Rattle.ec_resolve.proofs.Making.{either-plain, is_made}
-use Rattle.ec_resolve.proofs.Members.{member-self, member-right}
-use Rattle.ec_resolve.proofs.Verdicts.{need-says, ids-says}
+use Rattle.ec_cache.proofs.OfResolve.Making.{either-plain, is_made}
+use Rattle.ec_cache.proofs.OfResolve.Members.{member-self, member-right}
+use Rattle.ec_cache.proofs.OfResolve.Verdicts.{need-says, ids-says}
 
 -- Needs.
 

@@ -3,10 +3,10 @@ use Rattle.std.proofs.Common.{refl, ℕ, zero, suc, Bool, true, false, List, [],
 use Rattle.std.specs.List.{list_any}
 use Rattle.ec_base.specs.declared.ids.Hold.{Hold}
 use Rattle.ec_volume.specs.Volume.{images}
-use Rattle.ec_tokens.specs.Tokens.{granted}
-use Rattle.ec_recall.specs.Due.{actions, wants_after}
-use Rattle.ec_recall.specs.declared.want.Action.{Action}
-use Rattle.ec_recall.specs.declared.want.Action.TheVariants.{Grant, Recall}
+use Rattle.ec_sessions.specs.OfTokens.Tokens.{granted}
+use Rattle.ec_sessions.specs.OfRecall.Due.{actions, wants_after}
+use Rattle.ec_sessions.specs.declared.recall.want.Action.{Action}
+use Rattle.ec_sessions.specs.declared.recall.want.Action.TheVariants.{Grant, Recall}
 use Rattle.ec_wire.specs.declared.msg.Msg.TheVariants as msg
 use Rattle.ec_durable.specs.declared.record.Record.{Record}
 use Rattle.ec_protocol.specs.Server.{Serving, act, act_all, all_claimed, clerk_of, epoch, is_grant, send_grant, serve, serve_rounds, with_server}

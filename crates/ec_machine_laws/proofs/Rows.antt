@@ -12,10 +12,10 @@ use Rattle.ec_base.specs.Holds.{is_free, clash}
 use Rattle.ec_base.specs.Sorted.{without}
 use Rattle.ec_base.specs.SortedLaws.{first, second, find-without}
 use Rattle.ec_base.specs.declared.ids.Hold.{Hold}
-use Rattle.ec_tokens.specs.Laws.{holder_has, sound_lowered}
-use Rattle.ec_tokens.specs.Tokens.{Row, Tokens, Holder, row_of, row, token, mode, held_by, holders, is_conflict, conflicts, granted, fits_back, lowered_in, with_row, lowered}
-use Rattle.ec_tokens.specs.SoundTokens.{IsSound}
-use Rattle.ec_tokens.specs.declared.token.Token.{Token}
+use Rattle.ec_sessions.specs.OfTokens.Laws.{holder_has, sound_lowered}
+use Rattle.ec_sessions.specs.OfTokens.Tokens.{Row, Tokens, Holder, row_of, row, token, mode, held_by, holders, is_conflict, conflicts, granted, fits_back, lowered_in, with_row, lowered}
+use Rattle.ec_sessions.specs.OfTokens.SoundTokens.{IsSound}
+use Rattle.ec_sessions.specs.declared.tokens.token.Token.{Token}
 use Rattle.ec_base.proofs.Numbers.{same-self}
 use Rattle.ec_base.proofs.Bools.{higher}
 

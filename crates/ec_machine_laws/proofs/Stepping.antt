@@ -12,11 +12,11 @@ use Rattle.ec_sessions.specs.Slots.{greeting, run}
 use Rattle.ec_sessions.specs.Windows.{has}
 use Rattle.ec_sessions.specs.declared.slot.Greeting.TheVariants.{Greater}
 use Rattle.ec_sessions.specs.declared.slot.Slot.{Slot}
-use Rattle.ec_tokens.specs.Tokens.{Holder, token, conflicts, is_clear, granted, fits_back, lowered, first_clash, claimed as with_claim}
-use Rattle.ec_tokens.specs.declared.token.Token.{Token}
-use Rattle.ec_recall.specs.Due.{recall_to, recall_of, told_of, actions, wants_after}
-use Rattle.ec_recall.specs.Wants.{noted}
-use Rattle.ec_recall.specs.declared.want.Want.{Want}
+use Rattle.ec_sessions.specs.OfTokens.Tokens.{Holder, token, conflicts, is_clear, granted, fits_back, lowered, first_clash, claimed as with_claim}
+use Rattle.ec_sessions.specs.declared.tokens.token.Token.{Token}
+use Rattle.ec_sessions.specs.OfRecall.Due.{recall_to, recall_of, told_of, actions, wants_after}
+use Rattle.ec_sessions.specs.OfRecall.Wants.{noted}
+use Rattle.ec_sessions.specs.declared.recall.want.Want.{Want}
 use Rattle.ec_wire.specs.declared.msg.Msg.TheVariants.{Hello, Want as WantSent, Back, Flush, Room, Claim, Opened, Recall, Kept, Ids, NoRoom, Restarted}
 use Rattle.ec_durable.specs.Durable.{step, slot, live, reserved, is_full}
 use Rattle.ec_durable.specs.declared.record.Record.{Record}

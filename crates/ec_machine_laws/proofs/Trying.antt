@@ -10,8 +10,8 @@ use Rattle.ec_plain.specs.declared.call.Outcome.{Outcome}
 use Rattle.ec_log.specs.Log as log
 use Rattle.ec_log.specs.declared.state.Asked.{Asked}
 use Rattle.ec_log.specs.declared.state.Asked.TheVariants.{All}
-use Rattle.ec_resolve.specs.declared.verdict.Verdict.{Verdict}
-use Rattle.ec_resolve.specs.declared.verdict.Verdict.TheVariants.{Need, Lost, NeedIds, Done}
+use Rattle.ec_cache.specs.declared.resolve.verdict.Verdict.{Verdict}
+use Rattle.ec_cache.specs.declared.resolve.verdict.Verdict.TheVariants.{Need, Lost, NeedIds, Done}
 use Rattle.ec_protocol.specs.Clerk.{Doing, Tried, Answered, Waits, answer_with, ask_for, ask_pushes, answer_recalls, await, awaited, evict, has_session, is_owing, issue, issue_if_room, settle, settle_outcome, spend, suits, try, try_all, try_each, try_rounds, try_verdict, verdict, with_clerk, with_update}
 use Rattle.ec_protocol.specs.declared.clerk.Out.TheVariants as out
 use Rattle.ec_protocol.specs.declared.clerk.Waiting.{Waiting}

@@ -4,13 +4,13 @@ use Rattle.std.specs.List.{list_any}
 use Rattle.std.proofs.lemmas.Bool.{true≢false}
 use Rattle.ec_base.specs.declared.counter.Counter.TheVariants as counter
 use Rattle.ec_base.specs.declared.ids.Hold.{Hold}
-use Rattle.ec_tokens.specs.Tokens.{Tokens, Holder, conflicts, is_clear}
-use Rattle.ec_recall.specs.Due.{is_due, is_told, told_of, news, recall_of, actions, wants_after}
-use Rattle.ec_recall.specs.Laws.{settled, shorter}
-use Rattle.ec_recall.specs.Rounds as rounds
-use Rattle.ec_recall.specs.declared.want.Action.{Action}
-use Rattle.ec_recall.specs.declared.want.Action.TheVariants.{Grant, Recall}
-use Rattle.ec_recall.specs.declared.want.Want.{Want}
+use Rattle.ec_sessions.specs.OfTokens.Tokens.{Tokens, Holder, conflicts, is_clear}
+use Rattle.ec_sessions.specs.OfRecall.Due.{is_due, is_told, told_of, news, recall_of, actions, wants_after}
+use Rattle.ec_sessions.specs.OfRecall.Laws.{settled, shorter}
+use Rattle.ec_sessions.specs.OfRecall.Rounds as rounds
+use Rattle.ec_sessions.specs.declared.recall.want.Action.{Action}
+use Rattle.ec_sessions.specs.declared.recall.want.Action.TheVariants.{Grant, Recall}
+use Rattle.ec_sessions.specs.declared.recall.want.Want.{Want}
 use Rattle.ec_protocol.specs.Server.{Serving, serve, serve_rounds, all_claimed, grant, act, act_all, is_grant, is_last_number, next_number, spend, with_server}
 use Rattle.ec_machine_laws.specs.Serving.{with_wants, telling}
 use Rattle.ec_base.proofs.Numbers.{same-self}

@@ -4,8 +4,8 @@ use Rattle.ec_base.specs.Holds.{is_free}
 use Rattle.ec_base.specs.declared.ids.Hold.{Hold}
 use Rattle.ec_base.specs.declared.ids.Hold.TheVariants.{Read, Write}
 use Rattle.ec_volume.specs.Update.{member}
-use Rattle.ec_tokens.specs.Tokens.{Holder, Tokens, token}
-use Rattle.ec_tokens.specs.declared.token.Token.{Token}
+use Rattle.ec_sessions.specs.OfTokens.Tokens.{Holder, Tokens, token}
+use Rattle.ec_sessions.specs.declared.tokens.token.Token.{Token}
 
 -- one holder, which may write
 abbrev pub IsWriter : List Holder → Type 0

@@ -11,3 +11,5 @@ pub mod Counts
 pub mod Unspent
 pub mod Answers
 pub mod PlainLines
+pub mod OfAppliedOnce
+pub mod OfNodeLaws

@@ -6,10 +6,10 @@ use Rattle.ec_volume.specs.Volume.{images}
 use Rattle.ec_sessions.specs.Limits.{ids_per_grant}
 use Rattle.ec_sessions.specs.Slots.{run}
 use Rattle.ec_sessions.specs.declared.slot.Slot.{Slot}
-use Rattle.ec_tokens.specs.Tokens.{Holder, granted, lowered}
-use Rattle.ec_tokens.specs.declared.token.Token.{Token}
-use Rattle.ec_recall.specs.Due.{recall_to, told_of}
-use Rattle.ec_recall.specs.declared.want.Want.{Want}
+use Rattle.ec_sessions.specs.OfTokens.Tokens.{Holder, granted, lowered}
+use Rattle.ec_sessions.specs.declared.tokens.token.Token.{Token}
+use Rattle.ec_sessions.specs.OfRecall.Due.{recall_to, told_of}
+use Rattle.ec_sessions.specs.declared.recall.want.Want.{Want}
 use Rattle.ec_wire.specs.declared.msg.Msg.{Msg}
 use Rattle.ec_wire.specs.declared.msg.Msg.TheVariants.{Grant, Recall}
 use Rattle.ec_durable.specs.declared.state.Durable.{Durable}

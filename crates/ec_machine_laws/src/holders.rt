@@ -4,8 +4,8 @@ ghost use Rattle.ec_base.specs.declared.ids.Hold.{Hold as Mode};
 ghost use Rattle.ec_base.specs.declared.ids.Hold.TheVariants.{Read, Write};
 ghost use Rattle.ec_base.specs.Holds.{clash};
 ghost use Rattle.ec_volume.specs.Update.{member};
-ghost use Rattle.ec_tokens.specs.Tokens.{Tokens, Holder, token, holders, conflicts, granted, lowered, fits_back};
-ghost use Rattle.ec_tokens.specs.SoundTokens.{IsSound};
+ghost use Rattle.ec_sessions.specs.OfTokens.Tokens.{Tokens, Holder, token, holders, conflicts, granted, lowered, fits_back};
+ghost use Rattle.ec_sessions.specs.OfTokens.SoundTokens.{IsSound};
 ghost use Rattle.ec_protocol.specs.Server.{with_ids};
 ghost use Rattle.ec_machine_laws.specs.Holding.{IsWriter, AreReaders, left_at, AreOwn};
 

@@ -2,6 +2,7 @@
 //! serves, what steps count and spend, and which answers are plain. Each function has an empty body, and its contract is a law.
 #![tactic(auto)]
 
+pub mod applied_once;
 mod closures;
 mod covers;
 mod evictions;
@@ -9,6 +10,7 @@ mod holders;
 mod logs;
 mod need_example;
 mod needs;
+pub mod node_laws;
 mod pick_example;
 mod picks;
 mod plain_answers;

@@ -3,9 +3,9 @@ ghost use Rattle.std.specs.Prelude.{◌≡◌, ℕ, [], ◌∷◌, length, None,
 ghost use Rattle.ec_base.specs.declared.ids.Hold.TheVariants.{Read, Write};
 ghost use Rattle.ec_plain.specs.Plain.{plain};
 ghost use Rattle.ec_cache.specs.Cache.{images_held};
-ghost use Rattle.ec_resolve.specs.Agreement.{Shows};
-ghost use Rattle.ec_resolve.specs.Resolve.{evaluate};
-ghost use Rattle.ec_resolve.specs.declared.verdict.Verdict.TheVariants.{Need, NeedIds};
+ghost use Rattle.ec_cache.specs.OfResolve.Agreement.{Shows};
+ghost use Rattle.ec_cache.specs.OfResolve.Resolve.{evaluate};
+ghost use Rattle.ec_cache.specs.declared.resolve.verdict.Verdict.TheVariants.{Need, NeedIds};
 ghost use Rattle.ec_machine_laws.specs.NeedExample.{bare, reading, writing, making, ordering, deep};
 
 /// A call needs the root's token first for reading, then, as it makes an object there, for writing,

@@ -12,10 +12,10 @@ ghost use Rattle.ec_plain.specs.Walk.{Path, walk};
 ghost use Rattle.ec_plain.specs.declared.call.Call.{Call};
 ghost use Rattle.ec_cache.specs.Cache.{holds};
 ghost use Rattle.ec_cache.specs.declared.state.CacheState.{CacheState};
-ghost use Rattle.ec_report.specs.Report.{Owed};
-ghost use Rattle.ec_resolve.specs.Agreement.{Shows, IsFor};
-ghost use Rattle.ec_resolve.specs.Resolve.{evaluate};
-ghost use Rattle.ec_resolve.specs.declared.verdict.Verdict.TheVariants.{Need, NeedIds};
+ghost use Rattle.ec_cache.specs.OfReport.Report.{Owed};
+ghost use Rattle.ec_cache.specs.OfResolve.Agreement.{Shows, IsFor};
+ghost use Rattle.ec_cache.specs.OfResolve.Resolve.{evaluate};
+ghost use Rattle.ec_cache.specs.declared.resolve.verdict.Verdict.TheVariants.{Need, NeedIds};
 ghost use Rattle.ec_machine_laws.specs.Needs.{IsCreate, max_touched};
 
 /// An object that a call needs is one that it touches, on each volume that the cache shows and

@@ -7,7 +7,7 @@ ghost use Rattle.ec_volume.specs.declared.update.Update.{Update};
 ghost use Rattle.ec_order.specs.Order.{Issued, Holds};
 ghost use Rattle.ec_sessions.specs.Windows.{mark_answer, is_marked, after_mark};
 ghost use Rattle.ec_sessions.specs.declared.window.Window.{Window};
-ghost use Rattle.ec_laws.specs.Needs.{holds_needed};
+ghost use Rattle.ec_history.specs.OfLaws.Needs.{holds_needed};
 ghost use Rattle.ec_log.specs.Log.{issue, pick, after_pick, ops_in, kept, end};
 ghost use Rattle.ec_log.specs.declared.state.Asked.{Asked};
 ghost use Rattle.ec_log.specs.declared.state.LogState.{LogState};

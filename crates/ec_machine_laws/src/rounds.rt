@@ -1,9 +1,9 @@
 // What a want gets, and where the rounds of serving end.
 ghost use Rattle.std.specs.Prelude.{◌≡◌, Bool, true, false, filter, List, [], ◌∷◌, map};
-ghost use Rattle.ec_tokens.specs.Tokens.{Tokens, Holder, conflicts, is_clear};
-ghost use Rattle.ec_recall.specs.Due.{actions, wants_after, news, recall_of, told_of};
-ghost use Rattle.ec_recall.specs.declared.want.Action.TheVariants.{Grant};
-ghost use Rattle.ec_recall.specs.declared.want.Want.{Want};
+ghost use Rattle.ec_sessions.specs.OfTokens.Tokens.{Tokens, Holder, conflicts, is_clear};
+ghost use Rattle.ec_sessions.specs.OfRecall.Due.{actions, wants_after, news, recall_of, told_of};
+ghost use Rattle.ec_sessions.specs.declared.recall.want.Action.TheVariants.{Grant};
+ghost use Rattle.ec_sessions.specs.declared.recall.want.Want.{Want};
 ghost use Rattle.ec_protocol.specs.Server.{Serving, serve, all_claimed, grant, act_all};
 ghost use Rattle.ec_machine_laws.specs.Serving.{with_wants, telling, recalls_of};
 

@@ -3,3 +3,4 @@ pub mod Started
 pub mod Outcomes
 pub mod Begun
 pub mod Moved
+pub mod OfKeeper

@@ -26,12 +26,12 @@ use Rattle.ec_store.specs.declared.store.Store.{Store}
 use Rattle.ec_marking.specs.KeptRuns.{LeavesEither, HasRun}
 use Rattle.ec_marking.specs.Keeping.{IsDone, InDoubt, LeavesSome, CameOf, Unchanged, HasMark, Turns, IsStop, RunsIn}
 use Rattle.ec_marking.proofs.Runs.{run_same}
-use Rattle.ec_keeper.specs.Keeps.{KeepsRecord, LeavesRecord}
-use Rattle.ec_keeper.specs.declared.keeper.DiskKeeper.{DiskKeeper}
+use Rattle.ec_marking.specs.OfKeeper.Keeps.{KeepsRecord, LeavesRecord}
+use Rattle.ec_marking.specs.declared.keeper.keeper.DiskKeeper.{DiskKeeper}
 use Rattle.ec_codes.specs.Formats.{Format}
 use Rattle.ec_durable.specs.Codes.{record_code}
 use Rattle.ec_journal.specs.Journal.{need_of}
-use Rattle.ec_layout.specs.Selected.{free_now}
+use Rattle.ec_journal.specs.OfLayout.Selected.{free_now}
 use Rattle.ec_marking.specs.Held.{held_stands}
 use Rattle.ec_marking.specs.Marking.{HasMarked, MayHaveMarked, IsUnmarked, HasStopped}
 use Rattle.ec_marking.specs.declared.marking.Marking.{Marking}

@@ -5,3 +5,4 @@ pub mod Signs
 pub mod Marks
 pub mod Marking
 pub mod Keeping
+pub mod OfKeeper

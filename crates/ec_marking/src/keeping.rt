@@ -8,16 +8,16 @@ ghost use Rattle.ec_store.specs.Store.{IsHeld, view_of};
 ghost use Rattle.ec_marking.specs.Keeping.{IsDone, CameOf, Unchanged, Turns, HasMark, IsStop, RunsIn, IfDone, IsMarked};
 ghost use Rattle.ec_marking.specs.declared.keeping.Came.TheVariants as came;
 
+use crate::keeper::DiskKeeper;
 use crate::marking::{Marking, Marks};
 use crate::marks::Mark;
+use ec_base::trace::Trace;
 use ec_base::{ClerkId, Counter};
 use ec_disk::Disk;
 use ec_durable::Record;
-use ec_keeper::DiskKeeper;
 use ec_protocol::Served;
 use ec_server::{Server, ServerFault};
 use ec_store::Store;
-use ec_trace::Trace;
 use ec_wire::Msg;
 use std::alloc::Global;
 

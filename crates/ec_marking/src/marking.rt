@@ -4,9 +4,9 @@ ghost use Rattle.ec_marking.specs.Marking.{HasMarked, MayHaveMarked};
 
 use crate::marks::Mark;
 use ec_base::NoMemory;
+use ec_base::trace::Trace;
 use ec_durable::{Durable, Record};
 use ec_server::{KeepFault, Keeper};
-use ec_trace::Trace;
 use std::alloc::Global;
 
 // What a keeper notes of its records.

@@ -6,10 +6,10 @@ ghost use Rattle.ec_protocol.specs.World as machine;
 ghost use Rattle.ec_marking.specs.Marks.{IsMark};
 
 use crate::signs::Sign;
+use ec_base::trace::Trace;
 use ec_base::{ClerkId, List, NoMemory, OpNo};
 use ec_durable::{Durable, Record};
 use ec_protocol::Noted;
-use ec_trace::Trace;
 use ec_volume::Update;
 use std::alloc::Global;
 

@@ -9,9 +9,9 @@ use Rattle.ec_mirror.specs.Joins.{number_of, joined_of, lead}
 use Rattle.ec_mirror.specs.Numbers.{Numbered}
 use Rattle.ec_mirror.specs.declared.kept.Kept.{Kept}
 use Rattle.ec_mirror.specs.declared.kept.Kept.TheVariants as left
-use Rattle.ec_slots.specs.Contents.{filled}
-use Rattle.ec_slots.specs.SlotLaws.{generation_is}
-use Rattle.ec_slots.specs.Slots.{HoldsGeneration, generation}
+use Rattle.ec_half.specs.OfSlots.Contents.{filled}
+use Rattle.ec_half.specs.OfSlots.SlotLaws.{generation_is}
+use Rattle.ec_half.specs.OfSlots.Slots.{HoldsGeneration, generation}
 use Rattle.ec_half.proofs.Fills.{length-filled}
 
 either : (b : Bool) (P N : Type 0) → (b ≡ true → N) → (b ≡ false → P → ⊥) → P → N

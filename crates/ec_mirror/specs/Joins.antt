@@ -3,8 +3,8 @@ use Rattle.std.specs.Prelude.{ℕ, List, length, nat_le, if◌then◌else◌}
 use Rattle.ec_half.specs.Contents.{Content}
 use Rattle.ec_mirror.specs.declared.kept.Kept.{Kept}
 use Rattle.ec_mirror.specs.declared.kept.Kept.TheVariants as left
-use Rattle.ec_slots.specs.Contents.{content, filled}
-use Rattle.ec_slots.specs.Slots.{generation, header_bytes}
+use Rattle.ec_half.specs.OfSlots.Contents.{content, filled}
+use Rattle.ec_half.specs.OfSlots.Slots.{generation, header_bytes}
 
 -- a disk that is no longer than a header begins with generation 1
 abbrev pub number_of : List ℕ → ℕ

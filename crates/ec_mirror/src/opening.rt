@@ -6,16 +6,16 @@ ghost use Rattle.ec_half.specs.declared.fault.MirrorFault.TheVariants as fault;
 ghost use Rattle.ec_mirror.specs.declared.kept.Kept.TheVariants as left;
 ghost use Rattle.ec_mirror.specs.Joins.{content_of, joined_of, lead, number_of};
 ghost use Rattle.ec_mirror.specs.Numbers.{Numbered};
-ghost use Rattle.ec_slots.specs.Contents.{content, filled};
+ghost use Rattle.ec_half.specs.OfSlots.Contents.{content, filled};
 
 use crate::kept::Kept;
 use crate::mirror::Mirror;
 use crate::pair::{Moment, Pair};
 use crate::parts::Parts;
 use crate::tally::Tally;
+use ec_base::trace::Trace;
 use ec_disk::{CrashDisk, DiskAnswer, DiskLen};
 use ec_half::{Found, Half, Joined, MOST, MirrorFault, NEW, begin, join, lengthen, look_at};
-use ec_trace::Trace;
 
 impl<'a, A: CrashDisk, B: CrashDisk> Mirror<'a, A, B> {
     /// Makes both disks alike, by the one whose generation is greater, the first one in a tie. A disk that is armed and doesn't stop here isn't

@@ -2,9 +2,9 @@
 ghost use Rattle.std.specs.Prelude.{◌≡◌};
 
 use crate::kept::Kept;
+use ec_base::trace::Trace;
 use ec_disk::CrashDisk;
 use ec_half::Half;
-use ec_trace::Trace;
 
 #[derive(Drop)]
 pub(crate) struct Pair<'a, A: CrashDisk, B: CrashDisk> {

@@ -8,9 +8,9 @@ ghost use Rattle.ec_mirror.specs.Tally.{told};
 use crate::kept::Kept;
 use crate::pair::Moment;
 use crate::tally::Tally;
+use ec_base::trace::Trace;
 use ec_disk::{CrashDisk, DiskAnswer};
 use ec_half::MOST;
-use ec_trace::Trace;
 
 #[derive(Drop)]
 pub(crate) struct Parts<'a, A: CrashDisk, B: CrashDisk> {

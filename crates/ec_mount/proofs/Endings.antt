@@ -7,7 +7,7 @@ use Rattle.ec_history.specs.declared.shown.LimitName.TheVariants as limit
 use Rattle.ec_history.specs.declared.shown.Shown.TheVariants as shown
 use Rattle.ec_streams.specs.declared.streams.WriteFault.{WriteFault}
 use Rattle.ec_streams.specs.declared.streams.WriteFault.TheVariants as write
-use Rattle.ec_text.specs.Lines.{shown_text}
+use Rattle.ec_words.specs.OfText.Lines.{shown_text}
 use Rattle.ec_outs.specs.Outs.{Reply}
 use Rattle.ec_clerknode.specs.declared.fault.NodeFault.{NodeFault}
 use Rattle.ec_clerknode.specs.declared.fault.NodeFault.TheVariants as fault

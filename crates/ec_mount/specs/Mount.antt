@@ -9,7 +9,7 @@ use Rattle.ec_history.specs.declared.shown.LimitName.TheVariants as limit
 use Rattle.ec_history.specs.declared.shown.Shown.TheVariants as shown
 use Rattle.ec_plain.specs.declared.call.Call.{Call}
 use Rattle.ec_script.specs.Lines.{lines_of}
-use Rattle.ec_text.specs.Lines.{shown_text}
+use Rattle.ec_words.specs.OfText.Lines.{shown_text}
 use Rattle.ec_outs.specs.Outs.{Reply}
 use Rattle.ec_clerknode.specs.declared.fault.NodeFault.{NodeFault}
 use Rattle.ec_clerknode.specs.declared.fault.NodeFault.TheVariants as fault

@@ -3,9 +3,9 @@ use Rattle.std.specs.Prelude.{◌+◌, ℕ, List, [], ◌∷◌, ◌++◌, codes
 use Rattle.std.specs.List.{flat_map}
 use Rattle.std.specs.Fmt.{decimal}
 use Rattle.ec_base.specs.declared.ids.Age.{Age}
-use Rattle.ec_text.specs.Answers.{answered_text}
-use Rattle.ec_text.specs.Calls.{call_text}
-use Rattle.ec_text.specs.Pieces.{numbers_text}
+use Rattle.ec_words.specs.OfText.Answers.{answered_text}
+use Rattle.ec_words.specs.OfText.Calls.{call_text}
+use Rattle.ec_words.specs.OfText.Pieces.{numbers_text}
 use Rattle.ec_mount.specs.Script.{rows_of}
 use Rattle.ec_mount.specs.declared.script.Row.{Row}
 use Rattle.ec_outs.specs.Outs.{Reply}

@@ -2,8 +2,8 @@
 ghost use Rattle.std.specs.Prelude.{◌≡◌, ◌≤◌, ◌<◌, ℕ, [], ◌∷◌, ◌++◌, length, map, codes, IfOk, OnOk, List as Listed};
 ghost use Rattle.std.specs.Fmt.{decimal};
 ghost use Rattle.std.specs.List.{flat_map};
-ghost use Rattle.ec_text.specs.Answers.{answered_text};
-ghost use Rattle.ec_text.specs.Lines.{shown_text};
+ghost use Rattle.ec_words.specs.OfText.Answers.{answered_text};
+ghost use Rattle.ec_words.specs.OfText.Lines.{shown_text};
 ghost use Rattle.ec_mount.specs.Shown.{row_text, answers_text, lanes_text, told_text, end_text, came_text, old_boot_text, peer_text};
 ghost use Rattle.ec_mount.specs.Script.{rows_of};
 ghost use Rattle.ec_mount.specs.Work.{given_of};
@@ -15,7 +15,7 @@ use ec_base::{Age, Duplicate, List, NoMemory, OpNo, Sink};
 use ec_clerknode::Reply;
 use ec_history::{Answer, Shown};
 use ec_streams::{WriteFault, write_whole};
-use ec_text::{print, print_answer, print_call};
+use ec_words::text::{print, print_answer, print_call};
 use std::alloc::Global;
 
 // Puts a number and a space behind a text.

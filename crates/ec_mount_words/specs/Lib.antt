@@ -1,2 +1,3 @@
 pub mod Mounts
 pub mod Laws
+pub mod OfRoute

@@ -3,5 +3,6 @@
 
 mod mounts;
 mod paths;
+pub mod route;
 
 pub use mounts::{MAX_MOUNTS, are_mounts, clerk_of_mounts, mount_of};

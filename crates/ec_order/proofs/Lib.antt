@@ -1,1 +1,5 @@
 pub mod OrderLemmas
+pub mod OfObjmap
+pub mod OfObjtable
+pub mod OfNumbers
+pub mod OfNeeded

@@ -1,7 +1,7 @@
 //! Closures among three operations that a forder ties.
 
 use ec_base::{List, NoMemory, ObjId, OpNo};
-use ec_chains::{Ask, Order, OrderFault};
+use ec_log::chains::{Ask, Order, OrderFault};
 use ec_volume::Update;
 use std::alloc::Global;
 

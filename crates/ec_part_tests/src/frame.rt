@@ -1,7 +1,7 @@
 //! The frame of a message, and the same fed byte by byte.
 
 use ec_base::NoMemory;
-use ec_frame::{FrameFault, Frames, frame};
+use ec_streams::frame::{FrameFault, Frames, frame};
 use std::alloc::Global;
 
 // The length, a kind byte and three numbers of 1.

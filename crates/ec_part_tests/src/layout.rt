@@ -1,10 +1,10 @@
 //! A disk that is laid out, and checkpoints that stop.
 
 use ec_disk::{Choice, CrashDisk, Disk, DiskAnswer, DiskLen, MemDisk};
-use ec_journal::{JournalFault, read_part};
-use ec_layout::{
+use ec_journal::layout::{
     Head, SELECT_AT, Side, free_slots, prepare, slot_at, write_checkpoint, write_head,
 };
+use ec_journal::{JournalFault, read_part};
 use std::alloc::Global;
 
 // Slot 0 holds `root`, and the even table is `table 1`.

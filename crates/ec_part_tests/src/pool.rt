@@ -1,7 +1,7 @@
 //! What a pool of messages answers, call by call.
 
 use ec_base::{ClerkId, NoMemory, SessionNo};
-use ec_pool::Pool;
+use ec_protocol::pool::Pool;
 use ec_wire::{Msg, MsgKind};
 use std::alloc::Global;
 

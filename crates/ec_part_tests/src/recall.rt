@@ -1,8 +1,8 @@
 //! What is due to wants, in steps.
 
 use ec_base::{Hold, NoMemory, ObjId, SessionNo};
-use ec_recall::{Action, Recalls};
-use ec_tokens::Tokens;
+use ec_sessions::recall::{Action, Recalls};
+use ec_sessions::tokens::Tokens;
 use std::alloc::Global;
 
 // Of a digit.

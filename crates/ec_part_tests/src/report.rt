@@ -1,7 +1,7 @@
 //! An operation that is lost, and then told.
 
 use ec_base::{List, NoMemory, ObjId, OpNo};
-use ec_report::Report;
+use ec_cache::report::Report;
 use std::alloc::Global;
 
 // A report that owes operation 5, which was on these objects.

@@ -5,9 +5,9 @@ ghost use Rattle.ec_cache.specs.Held.{is_within};
 
 use ec_base::{Hold, List, NoMemory, ObjId, OpNo, Path};
 use ec_cache::Cache;
+use ec_cache::report::Report;
+use ec_cache::resolve::{Verdict, evaluate};
 use ec_plain::Call;
-use ec_report::Report;
-use ec_resolve::{Verdict, evaluate};
 use ec_volume::{Entries, Image};
 use std::alloc::Global;
 

@@ -1,7 +1,7 @@
 //! Tokens that sessions are granted, claim and give back.
 
 use ec_base::{Hold, NoMemory, ObjId, SessionNo};
-use ec_tokens::{ClaimFault, Tokens};
+use ec_sessions::tokens::{ClaimFault, Tokens};
 
 const FIVE: u32 = 5;
 

@@ -9,10 +9,10 @@ use Rattle.ec_base.specs.Tables.{Table, at_or, keys}
 use Rattle.ec_volume.specs.Update.{member}
 use Rattle.ec_volume.specs.declared.update.Update.{Update}
 use Rattle.ec_order.specs.Order.{Issued, Holds, needs, closure}
-use Rattle.ec_chains.specs.ClosureLaws.{passes-member, walk-closure}
-use Rattle.ec_chains.specs.Held.{settle, closure_of_op, first_number}
-use Rattle.ec_chains.specs.Walk.{passes, walk}
-use Rattle.ec_chains.specs.declared.closure.Ask.{Ask}
+use Rattle.ec_log.specs.OfChains.ClosureLaws.{passes-member, walk-closure}
+use Rattle.ec_log.specs.OfChains.Held.{settle, closure_of_op, first_number}
+use Rattle.ec_log.specs.OfChains.Walk.{passes, walk}
+use Rattle.ec_log.specs.declared.chains.closure.Ask.{Ask}
 use Rattle.ec_pending.specs.declared.issue.Issue.{Issue}
 use Rattle.ec_pending.proofs.Holding.{Known, known, issues-of}
 use Rattle.ec_pending.proofs.Leaving.{left-are, numbers-are, taken-walk}

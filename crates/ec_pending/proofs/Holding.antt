@@ -9,11 +9,11 @@ use Rattle.ec_base.specs.Tables.{Table, at, at_or, or_else, put}
 use Rattle.ec_volume.specs.Update.{member, operands, has_operand}
 use Rattle.ec_volume.specs.declared.update.Update.{Update}
 use Rattle.ec_order.specs.Order.{Issued, Holds}
-use Rattle.ec_chains.specs.Held.{is_behind}
-use Rattle.ec_chains.proofs.Fronts.{holds-last, holds-part}
+use Rattle.ec_log.specs.OfChains.Held.{is_behind}
+use Rattle.ec_log.proofs.OfChains.Fronts.{holds-last, holds-part}
 use Rattle.ec_pending.specs.declared.issue.Issue.{Issue}
 use Rattle.ec_pending.specs.Pending.{numbers_in, issues_of, issue_at, issues, AreEarly, AreUpTo, AreWithin}
-use Rattle.ec_objmap.proofs.Entries.{at-put}
+use Rattle.ec_order.proofs.OfObjmap.Entries.{at-put}
 
 -- Numbers.
 

@@ -11,9 +11,9 @@ use Rattle.ec_base.specs.Tables.{Table, keys, at_or}
 use Rattle.ec_volume.specs.Update.{member, has_operand}
 use Rattle.ec_volume.specs.declared.update.Update.{Update}
 use Rattle.ec_order.specs.Order.{Issued, Holds, needs}
-use Rattle.ec_chains.specs.ClosureLaws.{walk-passing}
-use Rattle.ec_chains.specs.Held.{settle, closure_of_object}
-use Rattle.ec_chains.specs.Walk.{walk}
+use Rattle.ec_log.specs.OfChains.ClosureLaws.{walk-passing}
+use Rattle.ec_log.specs.OfChains.Held.{settle, closure_of_object}
+use Rattle.ec_log.specs.OfChains.Walk.{walk}
 use Rattle.ec_pending.specs.declared.issue.Issue.{Issue}
 use Rattle.ec_pending.specs.declared.asked.Asked.TheVariants as asks
 use Rattle.ec_pending.proofs.Holding.{Known, known, issues-of}

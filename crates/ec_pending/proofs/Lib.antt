@@ -5,3 +5,6 @@ pub mod Rising
 pub mod Walks
 pub mod Deferring
 pub mod Late
+pub mod OfOverlay
+pub mod OfOutside
+pub mod OfOwes

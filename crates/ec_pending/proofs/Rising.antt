@@ -6,8 +6,8 @@ use Rattle.std.proofs.lemmas.Bool.Decides.{nat_tests}
 use Rattle.ec_base.specs.Tables.{Table, at_or, put}
 use Rattle.ec_volume.specs.declared.update.Update.{Update}
 use Rattle.ec_order.specs.Order.{Issued, Holds}
-use Rattle.ec_chains.specs.Held.{is_behind}
-use Rattle.ec_chains.proofs.Fronts.{holds-last, holds-part}
+use Rattle.ec_log.specs.OfChains.Held.{is_behind}
+use Rattle.ec_log.proofs.OfChains.Fronts.{holds-last, holds-part}
 use Rattle.ec_pending.specs.Pending.{AreRising, AreWithin}
 use Rattle.ec_pending.proofs.Holding.{at_or-put, held-lower}
 

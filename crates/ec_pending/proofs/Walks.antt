@@ -6,10 +6,10 @@ use Rattle.std.proofs.lemmas.List.{reverse-append, drop_all}
 use Rattle.ec_base.specs.Tables.{Table}
 use Rattle.ec_volume.specs.declared.update.Update.{Update}
 use Rattle.ec_order.specs.Order.{needs}
-use Rattle.ec_needed.specs.Needed.{Others, Ranges, is_needed}
-use Rattle.ec_chains.specs.SlotLaws.{live-next}
-use Rattle.ec_chains.specs.Slots.{Slots, with_one, live}
-use Rattle.ec_needed.proofs.Needs.{nothing_needed}
+use Rattle.ec_order.specs.OfNeeded.Needed.{Others, Ranges, is_needed}
+use Rattle.ec_log.specs.OfChains.SlotLaws.{live-next}
+use Rattle.ec_log.specs.OfChains.Slots.{Slots, with_one, live}
+use Rattle.ec_order.proofs.OfNeeded.Needs.{nothing_needed}
 use Rattle.ec_pending.specs.declared.issue.Issue.{Issue}
 use Rattle.ec_pending.specs.Pending.{numbers_in, picked_out, issue_at, issues}
 

@@ -1,2 +1,5 @@
 pub mod Pending
 pub mod Deferred
+pub mod OfOverlay
+pub mod OfOutside
+pub mod OfOwes

@@ -5,9 +5,9 @@ use Rattle.ec_base.specs.Tables.{Table, at_or}
 use Rattle.ec_volume.specs.Update.{member, has_operand}
 use Rattle.ec_volume.specs.declared.update.Update.{Update}
 use Rattle.ec_order.specs.Order.{Issued, Holds, needs}
-use Rattle.ec_chains.specs.Held.{is_behind}
-use Rattle.ec_chains.specs.Walk.{passes}
-use Rattle.ec_chains.specs.declared.closure.Ask.{Ask}
+use Rattle.ec_log.specs.OfChains.Held.{is_behind}
+use Rattle.ec_log.specs.OfChains.Walk.{passes}
+use Rattle.ec_log.specs.declared.chains.closure.Ask.{Ask}
 use Rattle.ec_pending.specs.declared.issue.Issue.{Issue}
 use Rattle.ec_pending.specs.declared.asked.Asked.{Asked}
 use Rattle.ec_pending.specs.declared.asked.Asked.TheVariants as asks

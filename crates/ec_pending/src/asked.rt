@@ -3,7 +3,7 @@ ghost use Rattle.std.specs.Prelude.{◌≡◌, ℕ};
 ghost use Rattle.ec_pending.specs.Pending.{is_asked};
 
 use ec_base::ObjId;
-use ec_chains::has_operand;
+use ec_log::chains::has_operand;
 use ec_volume::Update;
 
 /// Which operations of its start a call asks to be durable.

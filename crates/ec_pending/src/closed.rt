@@ -1,14 +1,14 @@
 // What is asked and what it needs, by a walk over all operations from the last one on.
 ghost use Rattle.std.specs.Prelude.{◌≡◌, ◌||◌, ℕ, IfOk};
 ghost use Rattle.ec_base.specs.Tables.{at_or};
-ghost use Rattle.ec_needed.specs.Needed.{is_needed};
-ghost use Rattle.ec_chains.specs.Slots.{live};
+ghost use Rattle.ec_order.specs.OfNeeded.Needed.{is_needed};
+ghost use Rattle.ec_log.specs.OfChains.Slots.{live};
 ghost use Rattle.ec_pending.specs.Pending.{is_asked, issues, numbers_in, picked_out};
 
 use crate::asked::{Asked, is_asked};
 use ec_base::{NoMemory, OpNo, SortedMap};
-use ec_chains::Slot;
-use ec_needed::Needed;
+use ec_log::chains::Slot;
+use ec_order::needed::Needed;
 use ec_volume::Update;
 use std::alloc::Global;
 

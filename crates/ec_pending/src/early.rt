@@ -9,7 +9,7 @@ ghost use Rattle.ec_pending.specs.Pending.{is_asked, is_early, issue_at, issues,
 use crate::asked::Asked;
 use crate::closed::place_of;
 use ec_base::{NoMemory, OpNo, SortedMap};
-use ec_chains::{Ask, Order};
+use ec_log::chains::{Ask, Order};
 
 /// What is asked is covered, and what it needs.
 pub fn cover_early(

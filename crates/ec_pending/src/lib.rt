@@ -8,6 +8,9 @@ mod deferred;
 mod early;
 mod issue;
 mod note;
+pub mod outside;
+pub mod overlay;
+pub mod owes;
 mod pending;
 
 pub use asked::Asked;

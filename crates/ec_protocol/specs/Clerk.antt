@@ -36,10 +36,10 @@ use Rattle.ec_log.specs.declared.state.Asked.TheVariants.{Object, Op, All}
 use Rattle.ec_log.specs.declared.state.Pick.{Pick}
 use Rattle.ec_log.specs.declared.state.Pick.TheVariants as pick_of
 use Rattle.ec_log.specs.declared.state.LogState.{LogState}
-use Rattle.ec_report.specs.Report.{owe, clear}
-use Rattle.ec_resolve.specs.Resolve.{evaluate}
-use Rattle.ec_resolve.specs.declared.verdict.Verdict.{Verdict}
-use Rattle.ec_resolve.specs.declared.verdict.Verdict.TheVariants.{Need, Lost, NeedIds, Done}
+use Rattle.ec_cache.specs.OfReport.Report.{owe, clear}
+use Rattle.ec_cache.specs.OfResolve.Resolve.{evaluate}
+use Rattle.ec_cache.specs.declared.resolve.verdict.Verdict.{Verdict}
+use Rattle.ec_cache.specs.declared.resolve.verdict.Verdict.TheVariants.{Need, Lost, NeedIds, Done}
 use Rattle.ec_protocol.specs.declared.clerk.Clerk.{Clerk}
 use Rattle.ec_protocol.specs.declared.clerk.Waiting.{Waiting}
 use Rattle.ec_protocol.specs.declared.clerk.Recalled.{Recalled}

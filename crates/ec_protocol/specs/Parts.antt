@@ -12,7 +12,7 @@ use Rattle.ec_cache.specs.declared.state.CacheState.{CacheState}
 use Rattle.ec_log.specs.Log as log
 use Rattle.ec_log.specs.declared.state.Asked.TheVariants.{Object, All}
 use Rattle.ec_log.specs.declared.state.LogState.{LogState}
-use Rattle.ec_report.specs.Report as report
+use Rattle.ec_cache.specs.OfReport.Report as report
 use Rattle.ec_durable.specs.Durable.{formatted}
 use Rattle.ec_durable.specs.declared.state.Durable.{Durable}
 use Rattle.ec_durable.specs.declared.record.Record.{Record}

@@ -19,11 +19,11 @@ use Rattle.ec_sessions.specs.declared.slot.Slot.{Slot}
 use Rattle.ec_sessions.specs.declared.slot.Greeting.{Greeting}
 use Rattle.ec_sessions.specs.declared.slot.Greeting.TheVariants as greeted
 use Rattle.ec_base.specs.Holds.{is_write}
-use Rattle.ec_tokens.specs.Tokens.{Tokens, token, mode, granted, fits_back, lowered, is_clear, first_clash, claimed as with_claim}
-use Rattle.ec_recall.specs.Wants.{noted}
-use Rattle.ec_recall.specs.Due.{actions, wants_after}
-use Rattle.ec_recall.specs.declared.want.Action.{Action}
-use Rattle.ec_recall.specs.declared.want.Action.TheVariants as action
+use Rattle.ec_sessions.specs.OfTokens.Tokens.{Tokens, token, mode, granted, fits_back, lowered, is_clear, first_clash, claimed as with_claim}
+use Rattle.ec_sessions.specs.OfRecall.Wants.{noted}
+use Rattle.ec_sessions.specs.OfRecall.Due.{actions, wants_after}
+use Rattle.ec_sessions.specs.declared.recall.want.Action.{Action}
+use Rattle.ec_sessions.specs.declared.recall.want.Action.TheVariants as action
 use Rattle.ec_wire.specs.declared.msg.Msg.{Msg}
 use Rattle.ec_wire.specs.declared.msg.Msg.TheVariants.{Hello, Want, Back, Flush, Room, Claim, Bye, Opened}
 use Rattle.ec_wire.specs.declared.msg.Msg.TheVariants.{Grant, Recall, Kept, Ids, NoRoom, Ended, Restarted, OldBoot}

@@ -8,7 +8,7 @@ use Rattle.std.specs.FinMap.Entries.{find-put, is_sorted-put}
 use Rattle.std.proofs.lemmas.Bool.{eq-eqb}
 use Rattle.ec_base.specs.Tables.{Table, at, put}
 use Rattle.ec_sessions.specs.declared.slot.Slot.{Slot}
-use Rattle.ec_tokens.specs.Tokens.{Tokens}
+use Rattle.ec_sessions.specs.OfTokens.Tokens.{Tokens}
 use Rattle.ec_wire.specs.declared.msg.Msg.{Msg}
 use Rattle.ec_protocol.specs.Clerk.{Doing}
 use Rattle.ec_protocol.specs.declared.clerk.Clerk.{Clerk}

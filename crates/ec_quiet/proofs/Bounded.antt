@@ -4,8 +4,8 @@ use Rattle.std.specs.Ordering.{nat_cmp}
 use Rattle.std.specs.FinMap.{find}
 use Rattle.ec_base.specs.Tables.{Table, at}
 use Rattle.ec_base.specs.Holds.{rank}
-use Rattle.ec_tokens.specs.Tokens.{Tokens, Holder, held_by, holders, token}
-use Rattle.ec_tokens.specs.declared.token.Token.{Token}
+use Rattle.ec_sessions.specs.OfTokens.Tokens.{Tokens, Holder, held_by, holders, token}
+use Rattle.ec_sessions.specs.declared.tokens.token.Token.{Token}
 use Rattle.ec_protocol.specs.declared.clerk.Clerk.{Clerk}
 use Rattle.ec_protocol.specs.declared.clerk.Waiting.{Waiting}
 use Rattle.ec_quiet.specs.Measure.{sum, own_price, own_rank, holder_price, others_price, unsent_by, asks_later, asks_later_by, if_more, weight, is_before_saving, noted_in, base, measure}

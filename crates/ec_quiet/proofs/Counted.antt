@@ -9,9 +9,9 @@ use Rattle.std.proofs.lemmas.Bool.Decides.{nat_tests}
 use Rattle.ec_base.specs.SortedLaws.{first, second}
 use Rattle.ec_base.specs.Tables.{Table, at, keys}
 use Rattle.ec_sessions.specs.declared.slot.Slot.{Slot}
-use Rattle.ec_tokens.specs.Tokens.{Tokens, Row, row_of}
-use Rattle.ec_tokens.specs.SoundTokens.{is_row}
-use Rattle.ec_tokens.specs.declared.token.Token.{Token}
+use Rattle.ec_sessions.specs.OfTokens.Tokens.{Tokens, Row, row_of}
+use Rattle.ec_sessions.specs.OfTokens.SoundTokens.{is_row}
+use Rattle.ec_sessions.specs.declared.tokens.token.Token.{Token}
 use Rattle.ec_volume.specs.Update.{member}
 use Rattle.ec_durable.specs.Durable.{slot}
 use Rattle.ec_protocol.specs.declared.clerk.Clerk.{Clerk}

@@ -20,9 +20,9 @@ use Rattle.ec_plain.specs.declared.call.Outcome.{Outcome}
 use Rattle.ec_plain.specs.declared.call.Refusal.TheVariants as no
 use Rattle.ec_plain.specs.declared.call.Reply.TheVariants as reply
 use Rattle.ec_cache.specs.Cache.{empty}
-use Rattle.ec_resolve.specs.Resolve.{evaluate, first_unread, first_unwritten, judged, lacking, lacks_id, seen}
-use Rattle.ec_resolve.specs.declared.verdict.Verdict.{Verdict}
-use Rattle.ec_resolve.specs.declared.verdict.Verdict.TheVariants.{Need, NeedIds, Done}
+use Rattle.ec_cache.specs.OfResolve.Resolve.{evaluate, first_unread, first_unwritten, judged, lacking, lacks_id, seen}
+use Rattle.ec_cache.specs.declared.resolve.verdict.Verdict.{Verdict}
+use Rattle.ec_cache.specs.declared.resolve.verdict.Verdict.TheVariants.{Need, NeedIds, Done}
 
 -- nothing is there
 abbrev nothing : Images

@@ -10,11 +10,11 @@ use Rattle.ec_base.specs.Holds.{rank, is_free, is_write, clash}
 use Rattle.ec_base.specs.declared.ids.Hold.{Hold}
 use Rattle.ec_base.specs.declared.ids.Hold.TheVariants.{Free, Read, Write}
 use Rattle.ec_volume.specs.Update.{member}
-use Rattle.ec_tokens.specs.Laws.{token-granted}
-use Rattle.ec_tokens.specs.Tokens.{Tokens, Holder, Row, row, token, mode, holders, is_conflict, conflicts, granted, lowered_in, lowered}
-use Rattle.ec_tokens.specs.SoundTokens.{IsSound}
-use Rattle.ec_tokens.specs.declared.token.Token.{Token}
-use Rattle.ec_recall.specs.Due.{recall_to}
+use Rattle.ec_sessions.specs.OfTokens.Laws.{token-granted}
+use Rattle.ec_sessions.specs.OfTokens.Tokens.{Tokens, Holder, Row, row, token, mode, holders, is_conflict, conflicts, granted, lowered_in, lowered}
+use Rattle.ec_sessions.specs.OfTokens.SoundTokens.{IsSound}
+use Rattle.ec_sessions.specs.declared.tokens.token.Token.{Token}
+use Rattle.ec_sessions.specs.OfRecall.Due.{recall_to}
 use Rattle.ec_protocol.specs.declared.clerk.Clerk.{Clerk}
 use Rattle.ec_quiet.specs.Measure.{sum, Noted, noted_at, fresh_rank, own_rank, own_price, left_by, holder_price, others_price, unsent_by, asks_later_by, base}
 use Rattle.ec_quiet.specs.Sums.{part_of}

@@ -27,9 +27,9 @@ use Rattle.ec_log.specs.declared.state.Asked.{Asked}
 use Rattle.ec_log.specs.declared.state.LogState.{LogState}
 use Rattle.ec_wire.specs.declared.msg.Msg.{Msg}
 use Rattle.ec_wire.specs.declared.msg.Msg.TheVariants as msg
-use Rattle.ec_resolve.specs.Resolve.{evaluate}
-use Rattle.ec_resolve.specs.declared.verdict.Verdict.{Verdict}
-use Rattle.ec_resolve.specs.declared.verdict.Verdict.TheVariants.{Need, NeedIds, Lost, Done}
+use Rattle.ec_cache.specs.OfResolve.Resolve.{evaluate}
+use Rattle.ec_cache.specs.declared.resolve.verdict.Verdict.{Verdict}
+use Rattle.ec_cache.specs.declared.resolve.verdict.Verdict.TheVariants.{Need, NeedIds, Lost, Done}
 use Rattle.ec_machine_laws.specs.Needs.{IsCreate}
 use Rattle.ec_machine_laws.proofs.Needing.{ids-creates}
 use Rattle.ec_protocol.specs.Clerk.{Doing, Tried, Waits, awaited, answer_with, doing, evict, first_id, less_id, max_tokens, send_want, settle, try, verdict, wanted}

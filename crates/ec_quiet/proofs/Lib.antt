@@ -33,3 +33,4 @@ mod StartScenes
 mod PushScenes
 pub mod Ending
 mod Opening
+pub mod OfDeliveries

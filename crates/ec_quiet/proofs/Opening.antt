@@ -4,7 +4,7 @@ use Rattle.std.specs.Prelude.{None, Some, Result, Ok}
 use Rattle.ec_base.specs.declared.counter.Counter.{Counter}
 use Rattle.ec_sessions.specs.Slots.{slot_at}
 use Rattle.ec_sessions.specs.declared.slot.Slot.{Slot}
-use Rattle.ec_tokens.specs.Laws.{sound_none}
+use Rattle.ec_sessions.specs.OfTokens.Laws.{sound_none}
 use Rattle.ec_durable.specs.Durable.{formatted, slot}
 use Rattle.ec_durable.specs.declared.record.Record.TheVariants.{Epoch}
 use Rattle.ec_protocol.specs.World.{new_world, open_world}

@@ -14,8 +14,8 @@ use Rattle.ec_cache.specs.Cache.{empty, last, mode}
 use Rattle.ec_cache.specs.declared.state.Held.{Held}
 use Rattle.ec_wire.specs.declared.msg.Msg.{Msg}
 use Rattle.ec_wire.specs.declared.msg.Msg.TheVariants.{Claim, Opened, Want}
-use Rattle.ec_resolve.specs.Resolve.{evaluate}
-use Rattle.ec_resolve.specs.declared.verdict.Verdict.TheVariants.{Need}
+use Rattle.ec_cache.specs.OfResolve.Resolve.{evaluate}
+use Rattle.ec_cache.specs.declared.resolve.verdict.Verdict.TheVariants.{Need}
 use Rattle.ec_protocol.specs.Clerk.{Doing, Waits, doing, evict, first_id, has_session, max_tokens, same_age, send_want, settle, taken, try, try_verdict, verdict}
 use Rattle.ec_protocol.specs.declared.clerk.Clerk.{Clerk}
 use Rattle.ec_protocol.specs.declared.clerk.Out.TheVariants as out

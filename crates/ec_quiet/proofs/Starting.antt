@@ -11,13 +11,13 @@ use Rattle.ec_plain.specs.declared.call.Call.{Call}
 use Rattle.ec_plain.specs.declared.call.Outcome.{Outcome}
 use Rattle.ec_sessions.specs.Slots.{is_greater, is_open}
 use Rattle.ec_sessions.specs.declared.slot.Slot.{Slot}
-use Rattle.ec_tokens.specs.Tokens.{token}
-use Rattle.ec_tokens.specs.declared.token.Token.{Token}
+use Rattle.ec_sessions.specs.OfTokens.Tokens.{token}
+use Rattle.ec_sessions.specs.declared.tokens.token.Token.{Token}
 use Rattle.ec_wire.specs.declared.msg.Msg.TheVariants.{Hello}
 use Rattle.ec_durable.specs.Durable.{slot}
 use Rattle.ec_cache.specs.Cache as cache
 use Rattle.ec_log.specs.declared.state.Asked.{Asked}
-use Rattle.ec_resolve.specs.declared.verdict.Verdict.TheVariants.{Need, Done}
+use Rattle.ec_cache.specs.declared.resolve.verdict.Verdict.TheVariants.{Need, Done}
 use Rattle.ec_protocol.specs.Clerk.{Doing, Tried, add_call, answer_with, await, awaited, begin, doing, evict, hello, max_tokens, new_clerk, settle, settle_outcome, spend, start, try, try_verdict, verdict}
 use Rattle.ec_protocol.specs.declared.clerk.Clerk.{Clerk}
 use Rattle.ec_protocol.specs.declared.clerk.Out.TheVariants as out

@@ -12,8 +12,8 @@ use Rattle.std.proofs.lemmas.Bool.Decides.{nat_tests}
 use Rattle.ec_base.specs.Sorted.{without}
 use Rattle.ec_base.specs.SortedLaws.{first, second, none_below, kept_below, below_first, below_tied}
 use Rattle.ec_volume.specs.Update.{member}
-use Rattle.ec_tokens.specs.Tokens.{Holder, Row, Tokens, held_by, holders, row, row_of, token, with_row}
-use Rattle.ec_tokens.specs.declared.token.Token.{Token}
+use Rattle.ec_sessions.specs.OfTokens.Tokens.{Holder, Row, Tokens, held_by, holders, row, row_of, token, with_row}
+use Rattle.ec_sessions.specs.declared.tokens.token.Token.{Token}
 use Rattle.ec_quiet.specs.Measure.{sum}
 use Rattle.ec_quiet.specs.Sums.{part_of, value_of}
 

@@ -11,7 +11,7 @@ use Rattle.ec_history.specs.declared.entry.Answer.TheVariants as answer
 use Rattle.ec_volume.specs.Update.{member}
 use Rattle.ec_volume.specs.declared.update.Update.{Update}
 use Rattle.ec_order.specs.Order.{Issued, closure, needs}
-use Rattle.ec_chains.specs.Held.{is_behind}
+use Rattle.ec_log.specs.OfChains.Held.{is_behind}
 use Rattle.ec_plain.specs.declared.call.Outcome.{Outcome}
 use Rattle.ec_cache.specs.Cache.{mode}
 use Rattle.ec_log.specs.Log as log
@@ -19,14 +19,14 @@ use Rattle.ec_log.specs.declared.state.Asked.{Asked}
 use Rattle.ec_log.specs.declared.state.LogState.{LogState}
 use Rattle.ec_log.specs.declared.state.Pick.{Pick}
 use Rattle.ec_log.specs.declared.state.Pick.TheVariants as pick_of
-use Rattle.ec_resolve.specs.declared.verdict.Verdict.{Verdict}
-use Rattle.ec_resolve.specs.declared.verdict.Verdict.TheVariants.{Need, Lost, NeedIds, Done}
+use Rattle.ec_cache.specs.declared.resolve.verdict.Verdict.{Verdict}
+use Rattle.ec_cache.specs.declared.resolve.verdict.Verdict.TheVariants.{Need, Lost, NeedIds, Done}
 use Rattle.ec_protocol.specs.Clerk.{Doing, Tried, Waits, Answered, answer_with, ask_for, await, awaited, first_id, is_owing, is_wanted, issue, issue_if_room, may_want, send_batch, send_picked, send_want, suits, try, try_verdict, under_recall, verdict, want, wanted, with_log}
 use Rattle.ec_protocol.specs.Clerk as clerk
 use Rattle.ec_protocol.specs.declared.clerk.Waiting.{Waiting}
 use Rattle.ec_quiet.specs.Works.{asked_in}
 use Rattle.ec_quiet.specs.Tries.{HasCounters, IsAnswer, IsBatch, IsCalm, IsRoom, IsWaiting, IsWant, batch_sent, issued, room_asked, updated}
-use Rattle.ec_resolve.specs.Resolve.{evaluate}
+use Rattle.ec_cache.specs.OfResolve.Resolve.{evaluate}
 use Rattle.ec_quiet.proofs.Verdicts.{idless-none, lacks-below, need-lacks, never-lost, wants-once}
 use Rattle.ec_base.proofs.Numbers.{above-limit as below}
 

@@ -16,8 +16,8 @@ use Rattle.ec_log.specs.declared.state.Asked.{Asked}
 use Rattle.ec_log.specs.declared.state.Asked.TheVariants.{All}
 use Rattle.ec_log.specs.declared.state.Pick.{Pick}
 use Rattle.ec_log.specs.declared.state.Pick.TheVariants as pick_of
-use Rattle.ec_resolve.specs.declared.verdict.Verdict.{Verdict}
-use Rattle.ec_resolve.specs.declared.verdict.Verdict.TheVariants.{Need, NeedIds, Lost, Done}
+use Rattle.ec_cache.specs.declared.resolve.verdict.Verdict.{Verdict}
+use Rattle.ec_cache.specs.declared.resolve.verdict.Verdict.TheVariants.{Need, NeedIds, Lost, Done}
 use Rattle.ec_protocol.specs.Clerk as clerk
 use Rattle.ec_protocol.specs.Clerk.{Doing, Tried, Waits, Answered, answer_with, ask_for, await, awaited, doing, is_owing, is_wanted, issue, may_want, max_tokens, send_picked, send_want, settle_outcome, suits, try, try_verdict, verdict, wanted, with_clerk, with_update}
 use Rattle.ec_protocol.specs.declared.clerk.Clerk.{Clerk}

@@ -15,9 +15,9 @@ use Rattle.ec_plain.specs.declared.call.Call.{Call}
 use Rattle.ec_plain.specs.declared.call.Outcome.{Outcome}
 use Rattle.ec_cache.specs.Cache.{counted, holds, last, mode}
 use Rattle.ec_cache.specs.declared.state.CacheState.{CacheState}
-use Rattle.ec_resolve.specs.Resolve.{asked, evaluate, first_unread, first_unwritten, lacking, lacks_id, outcome, seen}
-use Rattle.ec_resolve.specs.declared.verdict.Verdict.{Verdict}
-use Rattle.ec_resolve.specs.declared.verdict.Verdict.TheVariants.{Need, Lost, NeedIds, Done}
+use Rattle.ec_cache.specs.OfResolve.Resolve.{asked, evaluate, first_unread, first_unwritten, lacking, lacks_id, outcome, seen}
+use Rattle.ec_cache.specs.declared.resolve.verdict.Verdict.{Verdict}
+use Rattle.ec_cache.specs.declared.resolve.verdict.Verdict.TheVariants.{Need, Lost, NeedIds, Done}
 use Rattle.ec_protocol.specs.Clerk.{is_wanted, same_hold, wanted}
 use Rattle.ec_protocol.specs.declared.clerk.Clerk.{Clerk}
 use Rattle.ec_protocol.specs.declared.clerk.Wanted.{Wanted}

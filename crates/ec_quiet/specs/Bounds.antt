@@ -1,6 +1,6 @@
 -- The phases in which a line may begin, and how many others may have what it needs.
 use Rattle.std.specs.Prelude.{◌==◌, ℕ, not, filter, length, ⊤}
-use Rattle.ec_tokens.specs.Tokens.{Tokens}
+use Rattle.ec_sessions.specs.OfTokens.Tokens.{Tokens}
 use Rattle.ec_quiet.specs.Phases.{Phase, Greets, Opens, Claims, Wants, Recalls, Flushes, Keeps, Grants, Asks, Gives, Refuses, Saves, Saved, Ends}
 
 -- The line's own step was its clerk's: it greets, or asks for what it lacks, or is done.

@@ -7,9 +7,9 @@ use Rattle.ec_base.specs.declared.ids.Hold.{Hold}
 use Rattle.ec_volume.specs.Update.{member}
 use Rattle.ec_history.specs.History.{Each}
 use Rattle.ec_sessions.specs.declared.slot.Slot.{Slot}
-use Rattle.ec_tokens.specs.Tokens.{token}
-use Rattle.ec_tokens.specs.SoundTokens.{IsSound}
-use Rattle.ec_tokens.specs.declared.token.Token.{Token}
+use Rattle.ec_sessions.specs.OfTokens.Tokens.{token}
+use Rattle.ec_sessions.specs.OfTokens.SoundTokens.{IsSound}
+use Rattle.ec_sessions.specs.declared.tokens.token.Token.{Token}
 use Rattle.ec_durable.specs.Durable.{slot}
 use Rattle.ec_cache.specs.Cache.{empty, last}
 use Rattle.ec_cache.specs.declared.state.Held.{Held}

@@ -9,7 +9,7 @@ use Rattle.ec_plain.specs.declared.call.Call.{Call}
 use Rattle.ec_sessions.specs.declared.slot.Slot.{Slot}
 use Rattle.ec_durable.specs.Durable.{slot}
 use Rattle.ec_log.specs.Log as log
-use Rattle.ec_resolve.specs.declared.verdict.Verdict.TheVariants.{Need}
+use Rattle.ec_cache.specs.declared.resolve.verdict.Verdict.TheVariants.{Need}
 use Rattle.ec_protocol.specs.Clerk.{Doing, add_call, begin, new_clerk, push, start, verdict}
 use Rattle.ec_protocol.specs.declared.clerk.Clerk.{Clerk}
 use Rattle.ec_quiet.specs.Phases.{InPhase, Phase, backs}

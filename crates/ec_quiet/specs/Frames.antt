@@ -5,7 +5,7 @@ use Rattle.std.specs.FinMap.{is_sorted}
 use Rattle.ec_base.specs.Tables.{Table, at, put}
 use Rattle.ec_base.specs.declared.ids.Age.{Age}
 use Rattle.ec_base.specs.declared.ids.Hold.{Hold}
-use Rattle.ec_tokens.specs.Tokens.{Tokens}
+use Rattle.ec_sessions.specs.OfTokens.Tokens.{Tokens}
 use Rattle.ec_wire.specs.declared.msg.Msg.TheVariants.{Opened}
 use Rattle.ec_protocol.specs.Clerk.{Doing}
 use Rattle.ec_protocol.specs.declared.clerk.Clerk.{Clerk}

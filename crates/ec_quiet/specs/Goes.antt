@@ -4,7 +4,7 @@ use Rattle.ec_base.specs.Tables.{at, put}
 use Rattle.ec_base.specs.declared.ids.Hold.{Hold}
 use Rattle.ec_volume.specs.Update.{member}
 use Rattle.ec_sessions.specs.declared.slot.Slot.{Slot}
-use Rattle.ec_resolve.specs.declared.verdict.Verdict.TheVariants.{Need}
+use Rattle.ec_cache.specs.declared.resolve.verdict.Verdict.TheVariants.{Need}
 use Rattle.ec_volume.specs.Volume.{images}
 use Rattle.ec_wire.specs.declared.msg.Msg.TheVariants.{Grant}
 use Rattle.ec_protocol.specs.Clerk.{Doing, doing, max_tokens, settle, try, verdict}

@@ -19,3 +19,4 @@ pub mod Takings
 pub mod Goes
 pub mod First
 pub mod Lines
+pub mod OfDeliveries

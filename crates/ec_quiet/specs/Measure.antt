@@ -6,9 +6,9 @@ use Rattle.ec_base.specs.Tables.{Table, at}
 use Rattle.ec_base.specs.Holds.{clash, rank}
 use Rattle.ec_base.specs.declared.ids.Hold.{Hold}
 use Rattle.ec_volume.specs.Update.{member}
-use Rattle.ec_tokens.specs.Tokens.{Holder, Tokens, holders, token}
-use Rattle.ec_tokens.specs.declared.token.Token.{Token}
-use Rattle.ec_recall.specs.Due.{recall_to}
+use Rattle.ec_sessions.specs.OfTokens.Tokens.{Holder, Tokens, holders, token}
+use Rattle.ec_sessions.specs.declared.tokens.token.Token.{Token}
+use Rattle.ec_sessions.specs.OfRecall.Due.{recall_to}
 use Rattle.ec_log.specs.declared.state.LogState.{LogState}
 use Rattle.ec_protocol.specs.declared.clerk.Clerk.{Clerk}
 use Rattle.ec_protocol.specs.declared.clerk.Waiting.{Waiting}

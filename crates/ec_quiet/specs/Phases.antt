@@ -14,10 +14,10 @@ use Rattle.ec_order.specs.Order.{Issued}
 use Rattle.ec_sessions.specs.Limits.{ids_per_grant}
 use Rattle.ec_sessions.specs.Slots.{is_greater, is_open, run}
 use Rattle.ec_sessions.specs.declared.slot.Slot.{Slot}
-use Rattle.ec_tokens.specs.Tokens.{Holder, conflicts, token}
-use Rattle.ec_tokens.specs.declared.token.Token.{Token}
-use Rattle.ec_recall.specs.Due.{recall_to, told_of}
-use Rattle.ec_recall.specs.declared.want.Want as noted
+use Rattle.ec_sessions.specs.OfTokens.Tokens.{Holder, conflicts, token}
+use Rattle.ec_sessions.specs.declared.tokens.token.Token.{Token}
+use Rattle.ec_sessions.specs.OfRecall.Due.{recall_to, told_of}
+use Rattle.ec_sessions.specs.declared.recall.want.Want as noted
 use Rattle.ec_wire.specs.declared.msg.Msg.{Msg}
 use Rattle.ec_wire.specs.declared.msg.Msg.TheVariants as msg
 use Rattle.ec_durable.specs.Durable.{slot}
@@ -26,7 +26,7 @@ use Rattle.ec_cache.specs.declared.state.Held.{Held}
 use Rattle.ec_log.specs.Log as log
 use Rattle.ec_log.specs.declared.state.Asked.{Asked}
 use Rattle.ec_log.specs.declared.state.Asked.TheVariants.{Object}
-use Rattle.ec_resolve.specs.declared.verdict.Verdict.TheVariants.{Need, NeedIds}
+use Rattle.ec_cache.specs.declared.resolve.verdict.Verdict.TheVariants.{Need, NeedIds}
 use Rattle.ec_protocol.specs.Clerk.{verdict, wanted}
 use Rattle.ec_protocol.specs.Server.{has_claimed}
 use Rattle.ec_protocol.specs.declared.clerk.Clerk.{Clerk}

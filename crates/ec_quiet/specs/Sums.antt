@@ -4,8 +4,8 @@ use Rattle.std.specs.Ordering.{nat_cmp}
 use Rattle.std.specs.FinMap.{find, is_sorted}
 use Rattle.ec_base.specs.Tables.{Table, at, put}
 use Rattle.ec_volume.specs.Update.{member}
-use Rattle.ec_tokens.specs.Tokens.{Holder, Row, Tokens, holders, token, with_row}
-use Rattle.ec_tokens.specs.declared.token.Token.{Token}
+use Rattle.ec_sessions.specs.OfTokens.Tokens.{Holder, Row, Tokens, holders, token, with_row}
+use Rattle.ec_sessions.specs.declared.tokens.token.Token.{Token}
 use Rattle.ec_protocol.specs.declared.clerk.Clerk.{Clerk}
 use Rattle.ec_quiet.specs.Measure.{sum}
 

@@ -12,10 +12,10 @@ use Rattle.ec_plain.specs.declared.call.Call.{Call}
 use Rattle.ec_sessions.specs.Limits.{ids_per_grant}
 use Rattle.ec_sessions.specs.Slots.{is_greater, is_open, run}
 use Rattle.ec_sessions.specs.declared.slot.Slot.{Slot}
-use Rattle.ec_tokens.specs.Tokens.{Holder, conflicts, token}
-use Rattle.ec_tokens.specs.declared.token.Token.{Token}
-use Rattle.ec_recall.specs.Due.{is_told, recall_to}
-use Rattle.ec_recall.specs.declared.want.Want as noted
+use Rattle.ec_sessions.specs.OfTokens.Tokens.{Holder, conflicts, token}
+use Rattle.ec_sessions.specs.declared.tokens.token.Token.{Token}
+use Rattle.ec_sessions.specs.OfRecall.Due.{is_told, recall_to}
+use Rattle.ec_sessions.specs.declared.recall.want.Want as noted
 use Rattle.ec_wire.specs.declared.msg.Msg.{Msg}
 use Rattle.ec_wire.specs.declared.msg.Msg.TheVariants as msg
 use Rattle.ec_durable.specs.Durable.{slot}
@@ -24,8 +24,8 @@ use Rattle.ec_cache.specs.declared.state.Held.{Held}
 use Rattle.ec_log.specs.declared.state.Asked.{Asked}
 use Rattle.ec_log.specs.declared.state.Asked.TheVariants.{Object}
 use Rattle.ec_log.specs.declared.state.LogState.{LogState}
-use Rattle.ec_resolve.specs.declared.verdict.Verdict.{Verdict}
-use Rattle.ec_resolve.specs.declared.verdict.Verdict.TheVariants.{Need, Lost, NeedIds, Done}
+use Rattle.ec_cache.specs.declared.resolve.verdict.Verdict.{Verdict}
+use Rattle.ec_cache.specs.declared.resolve.verdict.Verdict.TheVariants.{Need, Lost, NeedIds, Done}
 use Rattle.ec_protocol.specs.Clerk.{is_session, max_tokens, verdict}
 use Rattle.ec_protocol.specs.Server.{all_claimed, has_claimed}
 use Rattle.ec_protocol.specs.declared.clerk.Clerk.{Clerk}

@@ -8,7 +8,7 @@ use Rattle.ec_volume.specs.declared.image.Image.{Image}
 use Rattle.ec_history.specs.History.{Each}
 use Rattle.ec_history.specs.declared.entry.Answer.TheVariants as answer
 use Rattle.ec_plain.specs.declared.call.Outcome.{Outcome}
-use Rattle.ec_chains.specs.Held.{is_behind}
+use Rattle.ec_log.specs.OfChains.Held.{is_behind}
 use Rattle.ec_sessions.specs.Limits.{last_grants}
 use Rattle.ec_wire.specs.declared.msg.Msg.TheVariants.{Grant, Ids, Kept, Recall}
 use Rattle.ec_cache.specs.Cache.{mode}
@@ -18,7 +18,7 @@ use Rattle.ec_log.specs.declared.state.Asked.{Asked}
 use Rattle.ec_log.specs.declared.state.Asked.TheVariants.{Object, Op}
 use Rattle.ec_log.specs.declared.state.LogState.{LogState}
 use Rattle.ec_log.specs.declared.state.Pick.TheVariants as pick_of
-use Rattle.ec_resolve.specs.declared.verdict.Verdict.TheVariants.{Need, NeedIds, Done}
+use Rattle.ec_cache.specs.declared.resolve.verdict.Verdict.TheVariants.{Need, NeedIds, Done}
 use Rattle.ec_protocol.specs.Clerk.{Doing, Tried, Waits, Answered, add_ids, answer_with, ask_for, doing, evict, give_back, has_session, is_ready, is_settled, keep_push, keep_recall, mark_recall, send_batch, send_room, send_want, settle, suits, taken, try, verdict, with_cache, with_clerk, with_log, with_update}
 use Rattle.ec_protocol.specs.declared.clerk.Clerk.{Clerk}
 use Rattle.ec_protocol.specs.declared.clerk.Recalled.{Recalled}

@@ -4,6 +4,7 @@
 
 mod bounds;
 mod clerk_phases;
+pub mod deliveries;
 mod falls;
 mod first_steps;
 mod line_scenes;

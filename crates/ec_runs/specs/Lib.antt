@@ -16,3 +16,4 @@ pub mod ThirdStops
 pub mod FourthStops
 pub mod StopsBefore
 pub mod StopsBehind
+pub mod OfRows

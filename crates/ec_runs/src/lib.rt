@@ -10,6 +10,7 @@ pub mod fourth_crashes;
 pub mod fourth_network;
 pub mod fourth_plain;
 pub mod fourth_stops;
+pub mod rows;
 pub mod second_crashes;
 pub mod second_network;
 pub mod second_plain;

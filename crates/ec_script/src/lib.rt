@@ -1,9 +1,11 @@
 //! Scripts: their lines, and the grammar of a line.
 #![tactic(auto)]
 
+pub mod generator;
 mod keyword;
 mod laws;
 mod line;
+pub mod made;
 mod place;
 mod script;
 

@@ -22,7 +22,7 @@ use Rattle.ec_servernode.specs.Run.{number_of, halted, records, record_of}
 use Rattle.ec_servernode.specs.Node.{queue_at, state_of, Chain, CountsUp}
 use Rattle.ec_servernode.specs.TurnSteps.{RunsFrom, Finished}
 use Rattle.ec_lock.specs.Steps.{Member, of}
-use Rattle.ec_threads.specs.Goings.{served_later}
+use Rattle.ec_serve.specs.OfThreads.Goings.{served_later}
 use Rattle.ec_serve.specs.Serve.{Outer, AllBack, RanOut, Spends, boxes_of}
 use Rattle.ec_serve.specs.ServerRuns.{Tends, KeeperEnds, RanWhole, EndsAs, RanServer as Ran, RanFrom, EndsBy}
 use Rattle.ec_serve.specs.Endings.{ending_of, unstarted}

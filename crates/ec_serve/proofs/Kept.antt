@@ -7,9 +7,9 @@ use Rattle.ec_durable.specs.Durable.{step}
 use Rattle.ec_durable.specs.declared.state.Durable.{Durable}
 use Rattle.ec_durable.specs.declared.record.Record.{Record}
 use Rattle.ec_journal.specs.Journal.{need_of}
-use Rattle.ec_keeper.specs.Keeps.{KeepsRecord, LeavesRecord}
-use Rattle.ec_keeper.specs.declared.keeper.DiskKeeper.{DiskKeeper}
-use Rattle.ec_layout.specs.Selected.{free_now}
+use Rattle.ec_marking.specs.OfKeeper.Keeps.{KeepsRecord, LeavesRecord}
+use Rattle.ec_marking.specs.declared.keeper.keeper.DiskKeeper.{DiskKeeper}
+use Rattle.ec_journal.specs.OfLayout.Selected.{free_now}
 use Rattle.ec_protocol.specs.Server.{start}
 use Rattle.ec_servernode.specs.Node.{ChainInDoubt}
 use Rattle.ec_servernode.specs.Run.{record_of}

@@ -3,3 +3,4 @@ pub mod Kept
 pub mod Endings
 pub mod Served
 pub mod Tends
+pub mod OfThreads

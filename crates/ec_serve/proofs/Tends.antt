@@ -9,8 +9,8 @@ use Rattle.ec_link.specs.declared.spawn.Spawned.{Spawned}
 use Rattle.ec_link.specs.declared.spawn.Spawned.TheVariants as spawned
 use Rattle.ec_lock.specs.Steps.{Member}
 use Rattle.ec_servernode.specs.declared.step.Step.{Step}
-use Rattle.ec_threads.specs.Moments.{Back}
-use Rattle.ec_threads.specs.ServingMoments.{Moment, GoesOn}
+use Rattle.ec_serve.specs.OfThreads.Moments.{Back}
+use Rattle.ec_serve.specs.OfThreads.ServingMoments.{Moment, GoesOn}
 use Rattle.ec_serve.specs.Serve.{Outer, AllBack}
 use Rattle.ec_serve.specs.ServerRuns.{Tends, tended_of}
 use Rattle.ec_serve.specs.declared.ending.Tended.{Tended as Ends}

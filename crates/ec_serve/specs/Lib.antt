@@ -1,3 +1,4 @@
 pub mod Endings
 pub mod Serve
 pub mod ServerRuns
+pub mod OfThreads

@@ -16,7 +16,7 @@ use Rattle.ec_link.specs.Nets.{Ended}
 use Rattle.ec_servernode.specs.declared.step.Halt.TheVariants as halt
 use Rattle.ec_servernode.specs.declared.step.Step.{Step}
 use Rattle.ec_servernode.specs.Run.{IsRun, halted, records, record_of, put_all, for_clerk}
-use Rattle.ec_threads.specs.Moments.{Back, AreServed}
+use Rattle.ec_serve.specs.OfThreads.Moments.{Back, AreServed}
 use Rattle.ec_serve.specs.declared.ending.Ending.{Ending}
 use Rattle.ec_serve.specs.declared.ending.Ending.TheVariants as ending
 

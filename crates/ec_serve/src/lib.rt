@@ -5,6 +5,7 @@ mod ending;
 mod opening;
 mod serving;
 mod tending;
+pub mod threads;
 
 pub use ending::Ending;
 pub use serving::serve;

@@ -9,12 +9,12 @@ ghost use Rattle.ec_servernode.specs.TurnSteps.{IsServerPass};
 ghost use Rattle.ec_serve.specs.ServerRuns.{Tends, tended_of};
 
 use crate::ending::Tended;
-use ec_bells::{Bells, Watch, tell_door, tell_no_door};
+use crate::threads::{Connections, run_all};
+use ec_attend::bells::{Bells, Watch, tell_door, tell_no_door};
+use ec_base::trace::Trace;
 use ec_link::{Around, Net, NetFault, Spawned, Spawner};
 use ec_server::Keeper;
 use ec_servernode::{ServerPass, SharedServer};
-use ec_threads::{Connections, run_all};
-use ec_trace::Trace;
 use std::io::Eprint;
 
 /// Serves so many links that come at the address, each in a thread of its own.

@@ -9,7 +9,7 @@ use Rattle.ec_base.specs.Holds.{is_free}
 use Rattle.ec_base.specs.Tables.{keys}
 use Rattle.ec_disk.specs.Disk.{Counts}
 use Rattle.ec_sessions.specs.Slots as slots
-use Rattle.ec_tokens.specs.SoundTokens.{rises_from, is_claim}
+use Rattle.ec_sessions.specs.OfTokens.SoundTokens.{rises_from, is_claim}
 use Rattle.ec_volume.specs.Update.{is_sound as is_sound_update}
 use Rattle.ec_volume.specs.declared.update.Update.{Update}
 use Rattle.ec_wire.specs.Messages.{is_sound, rises, is_held_mode}
@@ -25,8 +25,8 @@ use Rattle.ec_durable.specs.declared.record.RecordFault.{RecordFault}
 use Rattle.ec_protocol.specs.Server.{Serving, serving, taken, in_session, end_open, serve, end}
 use Rattle.ec_protocol.specs.declared.server.Server.{Server}
 use Rattle.ec_protocol.specs.declared.server.Served.{Served}
-use Rattle.ec_once.specs.Once.{record_list, NoneAgain, AllPast}
-use Rattle.ec_once.proofs.Once.{again, past}
+use Rattle.ec_machine_laws.specs.OfAppliedOnce.Once.{record_list, NoneAgain, AllPast}
+use Rattle.ec_machine_laws.proofs.OfAppliedOnce.Once.{again, past}
 use Rattle.ec_server.specs.Clerks.{HaveClerks, Records, Goes}
 use Rattle.ec_server.specs.ClerkLaws.{taken_goes}
 use Rattle.ec_server.specs.ServeLaws.{serve_serves, ended_goes, end_rec}

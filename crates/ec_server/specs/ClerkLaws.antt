@@ -19,13 +19,13 @@ use Rattle.ec_sessions.specs.declared.slot.Slot.{Slot}
 use Rattle.ec_sessions.specs.declared.slot.Greeting.{Greeting}
 use Rattle.ec_sessions.specs.declared.slot.Greeting.TheVariants as greeted
 use Rattle.ec_sessions.specs.Windows.{has}
-use Rattle.ec_tokens.specs.Tokens.{Row, Tokens, Holder, row, held_by, holders, conflicts, is_conflict, token, granted, with_row, lowered, lowered_in, claimed_in, is_clear, fits_back, first_clash, claimed as with_claim}
-use Rattle.ec_tokens.specs.declared.token.Token.{Token}
-use Rattle.ec_recall.specs.declared.want.Want.{Want}
-use Rattle.ec_recall.specs.declared.want.Action.TheVariants as action
-use Rattle.ec_recall.specs.Wants.{noted, is_of}
+use Rattle.ec_sessions.specs.OfTokens.Tokens.{Row, Tokens, Holder, row, held_by, holders, conflicts, is_conflict, token, granted, with_row, lowered, lowered_in, claimed_in, is_clear, fits_back, first_clash, claimed as with_claim}
+use Rattle.ec_sessions.specs.declared.tokens.token.Token.{Token}
+use Rattle.ec_sessions.specs.declared.recall.want.Want.{Want}
+use Rattle.ec_sessions.specs.declared.recall.want.Action.TheVariants as action
+use Rattle.ec_sessions.specs.OfRecall.Wants.{noted, is_of}
 use Rattle.ec_base.specs.Holds.{stronger}
-use Rattle.ec_recall.specs.Due.{actions_from, wants_from, is_due, given_to, is_told, told_of, news, recall_of}
+use Rattle.ec_sessions.specs.OfRecall.Due.{actions_from, wants_from, is_due, given_to, is_told, told_of, news, recall_of}
 use Rattle.ec_volume.specs.declared.update.Update.{Update}
 use Rattle.ec_wire.specs.declared.msg.Msg.{Msg}
 use Rattle.ec_wire.specs.declared.msg.Msg.TheVariants as msg

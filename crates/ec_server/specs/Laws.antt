@@ -9,8 +9,8 @@ use Rattle.ec_base.specs.declared.ids.Hold.{Hold}
 use Rattle.ec_sessions.specs.Limits.{last_first_id, last_grants}
 use Rattle.ec_sessions.specs.Slots.{run}
 use Rattle.ec_base.specs.Tables.{put}
-use Rattle.ec_tokens.specs.Tokens.{Tokens, token, first_clash, claimed as with_claim}
-use Rattle.ec_tokens.specs.declared.token.Token.{Token}
+use Rattle.ec_sessions.specs.OfTokens.Tokens.{Tokens, token, first_clash, claimed as with_claim}
+use Rattle.ec_sessions.specs.declared.tokens.token.Token.{Token}
 use Rattle.ec_base.specs.declared.ids.Age.{Age}
 use Rattle.ec_sessions.specs.declared.slot.Slot.{Slot}
 use Rattle.ec_sessions.specs.declared.window.Window.{Window}

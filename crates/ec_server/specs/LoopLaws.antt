@@ -3,10 +3,10 @@ use Rattle.std.proofs.Common.{◌≡◌, ◌<◌, ◌≤◌, refl, sym, ap, subs
 use Rattle.std.specs.Prelude.{◌+◌, ◌-◌}
 use Rattle.std.specs.List.{list_any}
 use Rattle.ec_sessions.specs.Slots as slots
-use Rattle.ec_tokens.specs.Tokens.{Tokens}
-use Rattle.ec_recall.specs.declared.want.Action.{Action}
-use Rattle.ec_recall.specs.declared.want.Action.TheVariants as action
-use Rattle.ec_recall.specs.Rounds.{GrantsGoIn}
+use Rattle.ec_sessions.specs.OfTokens.Tokens.{Tokens}
+use Rattle.ec_sessions.specs.declared.recall.want.Action.{Action}
+use Rattle.ec_sessions.specs.declared.recall.want.Action.TheVariants as action
+use Rattle.ec_sessions.specs.OfRecall.Rounds.{GrantsGoIn}
 use Rattle.ec_protocol.specs.Server.{Serving, is_grant, serve_rounds, tell_start, tell_all}
 use Rattle.ec_server.specs.Clerks.{HaveClerks}
 use Rattle.ec_server.specs.ServeLaws.{due_actions, round, goes_round, ends_round, fewer, round_clerks}

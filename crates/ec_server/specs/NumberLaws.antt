@@ -5,12 +5,12 @@ use Rattle.std.specs.List.{list_any}
 use Rattle.std.proofs.lemmas.Bool.Decides.{nat_tests}
 use Rattle.ec_base.specs.Limits.{last_counter}
 use Rattle.ec_base.specs.declared.counter.Counter.TheVariants as counter
-use Rattle.ec_recall.specs.declared.want.Want.{Want}
-use Rattle.ec_recall.specs.declared.want.Action.{Action}
-use Rattle.ec_recall.specs.declared.want.Action.TheVariants as action
-use Rattle.ec_recall.specs.Due.{wants_after}
-use Rattle.ec_recall.specs.Rounds as rounds
-use Rattle.ec_recall.specs.Laws.{counted}
+use Rattle.ec_sessions.specs.declared.recall.want.Want.{Want}
+use Rattle.ec_sessions.specs.declared.recall.want.Action.{Action}
+use Rattle.ec_sessions.specs.declared.recall.want.Action.TheVariants as action
+use Rattle.ec_sessions.specs.OfRecall.Due.{wants_after}
+use Rattle.ec_sessions.specs.OfRecall.Rounds as rounds
+use Rattle.ec_sessions.specs.OfRecall.Laws.{counted}
 use Rattle.ec_protocol.specs.Server.{Serving, with_server, spend, next_number, act, act_all, is_grant, serve_rounds, serve, all_claimed}
 use Rattle.ec_server.specs.Keepers.{HasNumbers}
 use Rattle.ec_server.specs.ServeLaws.{due_actions, waits, round, round_recalls}

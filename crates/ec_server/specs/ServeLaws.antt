@@ -8,13 +8,13 @@ use Rattle.ec_base.specs.declared.counter.Counter.TheVariants as counter
 use Rattle.ec_base.specs.Limits.{last_counter}
 use Rattle.ec_sessions.specs.Slots as slots
 use Rattle.ec_sessions.specs.declared.slot.Slot.{Slot}
-use Rattle.ec_tokens.specs.Tokens.{granted}
-use Rattle.ec_recall.specs.declared.want.Want.{Want}
-use Rattle.ec_recall.specs.declared.want.Action.{Action}
-use Rattle.ec_recall.specs.declared.want.Action.TheVariants as action
-use Rattle.ec_recall.specs.Due.{actions, wants_after}
-use Rattle.ec_recall.specs.Rounds as rounds
-use Rattle.ec_recall.specs.Laws.{shorter}
+use Rattle.ec_sessions.specs.OfTokens.Tokens.{granted}
+use Rattle.ec_sessions.specs.declared.recall.want.Want.{Want}
+use Rattle.ec_sessions.specs.declared.recall.want.Action.{Action}
+use Rattle.ec_sessions.specs.declared.recall.want.Action.TheVariants as action
+use Rattle.ec_sessions.specs.OfRecall.Due.{actions, wants_after}
+use Rattle.ec_sessions.specs.OfRecall.Rounds as rounds
+use Rattle.ec_sessions.specs.OfRecall.Laws.{shorter}
 use Rattle.ec_wire.specs.declared.msg.Msg.{Msg}
 use Rattle.ec_wire.specs.declared.msg.Msg.TheVariants.{Restarted}
 use Rattle.ec_durable.specs.Durable.{step, slot, is_session, with_slot}

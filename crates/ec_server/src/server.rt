@@ -3,10 +3,10 @@ ghost use Rattle.std.specs.Prelude.{◌≡◌, ◌↔◌, IfOk, IfErr, OnOk, IsO
 ghost use Rattle.ec_disk.specs.Effects.{Counted};
 ghost use Rattle.ec_durable.specs.Durable.{slot};
 ghost use Rattle.ec_durable.specs.WellFormed.{IsInOrder, WellFormed};
-ghost use Rattle.ec_once.specs.Once.{record_list, NoneAgain, AllPast};
-ghost use Rattle.ec_once.specs.SafeServers.{IsSafe};
+ghost use Rattle.ec_machine_laws.specs.OfAppliedOnce.Once.{record_list, NoneAgain, AllPast};
+ghost use Rattle.ec_machine_laws.specs.OfAppliedOnce.SafeServers.{IsSafe};
 ghost use Rattle.ec_sessions.specs.Slots.{is_open};
-ghost use Rattle.ec_tokens.specs.SoundTokens.{AllApart};
+ghost use Rattle.ec_sessions.specs.OfTokens.SoundTokens.{AllApart};
 ghost use Rattle.ec_wire.specs.Messages.{is_sound};
 ghost use Rattle.ec_protocol.specs.Server as machine;
 ghost use Rattle.ec_server.specs.Clerks.{Records};

@@ -16,7 +16,7 @@ use ec_admission::{Waiting, forget_claim};
 use ec_base::{ClerkId, LAST_COUNTER, List, NoMemory, SessionNo, SortedMap};
 use ec_durable::Record;
 use ec_protocol::Served;
-use ec_tokens::Tokens;
+use ec_sessions::tokens::Tokens;
 use ec_wire::Msg;
 use std::alloc::Global;
 use std::mem;

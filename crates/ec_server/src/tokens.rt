@@ -4,7 +4,7 @@ ghost use Rattle.ec_durable.specs.Durable.{slot};
 ghost use Rattle.std.specs.List.{list_all};
 ghost use Rattle.ec_base.specs.Tables.{keys};
 ghost use Rattle.ec_volume.specs.Volume.{images};
-ghost use Rattle.ec_tokens.specs.SoundTokens.{is_claim};
+ghost use Rattle.ec_sessions.specs.OfTokens.SoundTokens.{is_claim};
 ghost use Rattle.ec_durable.specs.declared.state.Durable.{Durable};
 ghost use Rattle.ec_protocol.specs.Server as machine;
 ghost use Rattle.ec_server.specs.Keepers.{Moves, Hurts, HasNumbers};
@@ -15,7 +15,7 @@ use crate::fault::ServerFault;
 use crate::keeper::Keeper;
 use crate::state::{Core, epoch};
 use ec_base::{ClerkId, Hold, NoMemory, ObjId, SessionNo};
-use ec_tokens::ClaimFault;
+use ec_sessions::tokens::ClaimFault;
 use ec_volume::SharedImage;
 use ec_wire::Msg;
 

@@ -1,23 +1,23 @@
 // Wants are served after each step, where every open session has claimed.
 ghost use Rattle.std.specs.Prelude.{◌≡◌, ◌≢◌, ◌∷◌, [], suc, OnOk, IfOk, IsTrue, length, List};
 ghost use Rattle.std.specs.List.{list_any};
-ghost use Rattle.ec_tokens.specs.Tokens.{is_clear, granted};
-ghost use Rattle.ec_tokens.specs.SoundTokens.{IsSound};
+ghost use Rattle.ec_sessions.specs.OfTokens.Tokens.{is_clear, granted};
+ghost use Rattle.ec_sessions.specs.OfTokens.SoundTokens.{IsSound};
 ghost use Rattle.ec_protocol.specs.Server as machine;
 ghost use Rattle.ec_admission.specs.Clerks.{IsOpenIn};
 ghost use Rattle.ec_server.specs.Clerks.{HaveClerks, Each, session_of};
 ghost use Rattle.ec_server.specs.ServeLaws.{due_actions, round};
 ghost use Rattle.ec_server.specs.Steps.{under, server};
-ghost use Rattle.ec_recall.specs.Rounds.{GrantsGoIn};
-ghost use Rattle.ec_recall.specs.declared.want.Action.TheVariants as action;
-ghost use Rattle.ec_recall.specs.declared.want.Action.{Action as Due};
+ghost use Rattle.ec_sessions.specs.OfRecall.Rounds.{GrantsGoIn};
+ghost use Rattle.ec_sessions.specs.declared.recall.want.Action.TheVariants as action;
+ghost use Rattle.ec_sessions.specs.declared.recall.want.Action.{Action as Due};
 
 use crate::keeper::Keeper;
 use crate::state::{Core, epoch};
 use ec_admission::{all_claimed, clerk_in};
 use ec_base::{ClerkId, Hold, NoMemory, ObjId, SessionNo};
-use ec_recall::Action;
-use ec_tokens::Tokens;
+use ec_sessions::recall::Action;
+use ec_sessions::tokens::Tokens;
 use ec_wire::Msg;
 
 // The clerk whose session this is.

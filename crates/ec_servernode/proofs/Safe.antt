@@ -8,10 +8,10 @@ use Rattle.ec_durable.specs.declared.record.RecordFault.{RecordFault}
 use Rattle.ec_durable.specs.declared.state.Durable.{Durable}
 use Rattle.ec_protocol.specs.Server.{Serving, take, end}
 use Rattle.ec_protocol.specs.declared.server.Server.{Server}
-use Rattle.ec_once.specs.SafeServers.{IsSafe, IsSafeBehind}
-use Rattle.ec_once.proofs.Once.{once}
-use Rattle.ec_once.proofs.Steps.{take-safe, end-safe, steps-append}
-use Rattle.ec_once.proofs.Walk.{Led, take-goes, end-goes}
+use Rattle.ec_machine_laws.specs.OfAppliedOnce.SafeServers.{IsSafe, IsSafeBehind}
+use Rattle.ec_machine_laws.proofs.OfAppliedOnce.Once.{once}
+use Rattle.ec_machine_laws.proofs.OfAppliedOnce.Steps.{take-safe, end-safe, steps-append}
+use Rattle.ec_machine_laws.proofs.OfAppliedOnce.Walk.{Led, take-goes, end-goes}
 use Rattle.ec_servernode.specs.declared.state.Node.{Node}
 use Rattle.ec_servernode.specs.declared.step.Deed.{Deed}
 use Rattle.ec_servernode.specs.declared.step.Deed.TheVariants.{Took, Gave, Refused, Halted, Ended, HaltedEnd}

@@ -1,7 +1,7 @@
 -- What a server run keeps of a safe server.
 use Rattle.std.specs.Prelude.{List}
 use Rattle.ec_durable.specs.declared.state.Durable.{Durable}
-use Rattle.ec_once.specs.SafeServers.{IsSafe, IsSafeBehind}
+use Rattle.ec_machine_laws.specs.OfAppliedOnce.SafeServers.{IsSafe, IsSafeBehind}
 use Rattle.ec_servernode.specs.declared.state.Node.{Node}
 use Rattle.ec_servernode.specs.declared.step.Step.{Step}
 use Rattle.ec_servernode.specs.Node.{state_of}

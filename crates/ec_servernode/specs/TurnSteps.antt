@@ -11,7 +11,7 @@ use Rattle.ec_durable.specs.declared.record.Record.{Record}
 use Rattle.ec_server.specs.Servers.{standing}
 use Rattle.ec_server.specs.declared.server.Server.{Server}
 use Rattle.ec_link.specs.declared.link.Got.TheVariants as got
-use Rattle.ec_frame.specs.Frames.{Begins}
+use Rattle.ec_streams.specs.OfFrame.Frames.{Begins}
 use Rattle.ec_link.specs.Links.{Heard, added, body, long}
 use Rattle.ec_link.specs.LinkAnswers.{Reads}
 use Rattle.ec_lock.specs.PassViews.{first, front, note_view, IsPassOf, IsNoteOf}

@@ -5,8 +5,8 @@ ghost use Rattle.ec_servernode.specs.Told.{tells};
 use crate::caller::Refusal;
 use crate::step::{Halt, Step};
 use ec_base::ClerkId;
+use ec_base::trace::Trace;
 use ec_server::{Keeper, Server};
-use ec_trace::Trace;
 use ec_wire::Msg;
 use std::collections::VecDeque;
 

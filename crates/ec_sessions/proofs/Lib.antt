@@ -1,2 +1,4 @@
 pub mod Rising
 pub mod Tables
+pub mod OfTokens
+pub mod OfRecall

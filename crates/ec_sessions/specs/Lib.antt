@@ -5,3 +5,5 @@ pub mod SlotChecks
 pub mod WindowLaws
 pub mod Windows
 pub mod WindowMarks
+pub mod OfTokens
+pub mod OfRecall

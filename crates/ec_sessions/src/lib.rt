@@ -2,8 +2,10 @@
 #![tactic(auto)]
 
 mod laws;
+pub mod recall;
 mod sessions;
 mod slot;
+pub mod tokens;
 mod unspent;
 mod window;
 

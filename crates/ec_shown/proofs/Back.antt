@@ -23,9 +23,9 @@ use Rattle.ec_plain.specs.declared.call.Refusal.{Refusal}
 use Rattle.ec_plain.specs.declared.call.Refusal.TheVariants as refusal
 use Rattle.ec_plain.specs.declared.call.Reply.{Reply}
 use Rattle.ec_plain.specs.declared.call.Reply.TheVariants as reply
-use Rattle.ec_text.specs.Answers.{kind_text}
-use Rattle.ec_text.specs.Lines.{limit_text, counter_text, shown_line}
-use Rattle.ec_text.specs.Pieces.{hex_digit, escaped, octal}
+use Rattle.ec_words.specs.OfText.Answers.{kind_text}
+use Rattle.ec_words.specs.OfText.Lines.{limit_text, counter_text, shown_line}
+use Rattle.ec_words.specs.OfText.Pieces.{hex_digit, escaped, octal}
 use Rattle.ec_volume.specs.Limits.{max_mode, max_ordered}
 use Rattle.ec_words.specs.Rows.{Word, ◌▸◌, End, Last, ◌⊳◌, ◌makes◌}
 use Rattle.ec_words.specs.Spelling.{IsNumberIn, IsClerk, IsSmallNumber, IsNumber, IsMode, is_octal, hex_byte, led_by}

@@ -5,8 +5,8 @@ use Rattle.ec_base.specs.declared.counter.Counter.{Counter}
 use Rattle.ec_base.specs.declared.counter.Counter.TheVariants as counter
 use Rattle.ec_history.specs.declared.shown.LimitName.{LimitName}
 use Rattle.ec_history.specs.declared.shown.LimitName.TheVariants as limit
-use Rattle.ec_text.specs.Answers.{kind_text}
-use Rattle.ec_text.specs.Lines.{limit_text, counter_text}
+use Rattle.ec_words.specs.OfText.Answers.{kind_text}
+use Rattle.ec_words.specs.OfText.Lines.{limit_text, counter_text}
 use Rattle.ec_volume.specs.declared.image.Kind.{Kind}
 use Rattle.ec_volume.specs.declared.image.Kind.TheVariants as kind
 use Rattle.ec_words.specs.Rows.{Word}

@@ -21,10 +21,10 @@ use Rattle.ec_plain.specs.declared.call.Reply.TheVariants as reply
 use Rattle.ec_volume.specs.Limits.{max_ordered}
 use Rattle.ec_volume.specs.declared.image.Kind.{Kind}
 use Rattle.ec_volume.specs.declared.image.Kind.TheVariants as kind
-use Rattle.ec_text.specs.Pieces.{escaped, path_text, octal, clerk_text, next_number, numbers_text}
-use Rattle.ec_text.specs.Calls.{call_text, next_path}
-use Rattle.ec_text.specs.Answers.{refusal_text, kind_text, data_text, next_name, owner_text, answered_text}
-use Rattle.ec_text.specs.Lines.{limit_text, counter_text, shown_line}
+use Rattle.ec_words.specs.OfText.Pieces.{escaped, path_text, octal, clerk_text, next_number, numbers_text}
+use Rattle.ec_words.specs.OfText.Calls.{call_text, next_path}
+use Rattle.ec_words.specs.OfText.Answers.{refusal_text, kind_text, data_text, next_name, owner_text, answered_text}
+use Rattle.ec_words.specs.OfText.Lines.{limit_text, counter_text, shown_line}
 use Rattle.ec_words.specs.Words.{words_of}
 use Rattle.ec_words.specs.declared.name.Verb.{Verb}
 use Rattle.ec_words.specs.declared.name.Verb.TheVariants as verb

@@ -7,7 +7,7 @@ use Rattle.std.specs.Fmt.{decimal}
 use Rattle.ec_base.specs.Names.{is_slash, path_fault, path_names, names_fault}
 use Rattle.ec_base.specs.declared.name.PathFault.TheVariants as unread
 use Rattle.ec_plain.specs.Walk.{Path}
-use Rattle.ec_text.specs.Pieces.{hex_digit, escaped_byte, escaped, step_text, path_text, octal}
+use Rattle.ec_words.specs.OfText.Pieces.{hex_digit, escaped_byte, escaped, step_text, path_text, octal}
 use Rattle.ec_words.specs.Rows.{Word}
 use Rattle.ec_words.specs.Spelling.{IsNumberIn, IsMode, IsClerk, is_octal, mode_of, hex_byte, led_by}
 use Rattle.ec_shown.specs.Spelling.{is_plain, bare_byte, upper_digit, unless_plain, escape_of, written_of, IsPathShown}

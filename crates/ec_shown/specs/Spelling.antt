@@ -6,8 +6,8 @@ use Rattle.ec_history.specs.declared.shown.LimitName.{LimitName}
 use Rattle.ec_plain.specs.Walk.{Path}
 use Rattle.ec_volume.specs.Limits.{max_write_bytes}
 use Rattle.ec_volume.specs.declared.image.Kind.{Kind}
-use Rattle.ec_text.specs.Answers.{kind_text}
-use Rattle.ec_text.specs.Lines.{limit_text, counter_text}
+use Rattle.ec_words.specs.OfText.Answers.{kind_text}
+use Rattle.ec_words.specs.OfText.Lines.{limit_text, counter_text}
 use Rattle.ec_words.specs.Rows.{Word}
 use Rattle.ec_words.specs.Spelling.{IsNumberIn, is_printed, hex_byte, led_by}
 use Rattle.ec_shown.specs.declared.name.Head.{Head}

@@ -2,7 +2,7 @@
 ghost use Rattle.std.specs.Prelude.{◌≡◌, ℕ, List};
 ghost use Rattle.ec_history.specs.declared.shown.Shown.{Shown};
 ghost use Rattle.ec_script.specs.declared.line.LineFault.TheVariants as fault;
-ghost use Rattle.ec_text.specs.Lines.{shown_line};
+ghost use Rattle.ec_words.specs.OfText.Lines.{shown_line};
 ghost use Rattle.ec_shown.specs.Showable.{IsShowable};
 ghost use Rattle.ec_shown.specs.Lines.{IsShown, IsUnfit};
 

@@ -7,12 +7,12 @@ use Rattle.ec_volume.specs.declared.image.Image.{Image}
 use Rattle.ec_codes.specs.Spelling.{StandsAt}
 use Rattle.ec_durable.specs.declared.state.Durable.{Durable}
 use Rattle.ec_durable.specs.WellFormed.{WellFormed}
-use Rattle.ec_table.specs.Codes.{table_code, described}
-use Rattle.ec_table.specs.declared.table.Version.{Version}
-use Rattle.ec_table.specs.declared.table.Version.TheVariants.{Two}
-use Rattle.ec_layout.specs.Places.{journal_bytes}
-use Rattle.ec_layout.specs.Layout.{Layout}
-use Rattle.ec_layout.specs.Head.{first_word, form}
+use Rattle.ec_stands.specs.OfTable.Codes.{table_code, described}
+use Rattle.ec_stands.specs.declared.table.table.Version.{Version}
+use Rattle.ec_stands.specs.declared.table.table.Version.TheVariants.{Two}
+use Rattle.ec_journal.specs.OfLayout.Places.{journal_bytes}
+use Rattle.ec_journal.specs.OfLayout.Layout.{Layout}
+use Rattle.ec_journal.specs.OfLayout.Head.{first_word, form}
 use Rattle.ec_stands.specs.Stands.{side_in, journal_in, table_part, slot_part, slot_code, HasGoodHead}
 
 -- The layout of a checkpoint.

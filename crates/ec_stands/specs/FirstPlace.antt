@@ -11,11 +11,11 @@ use Rattle.ec_volume.specs.declared.image.Image.{Image}
 use Rattle.ec_codes.specs.declared.fault.CodeFault.{CodeFault}
 use Rattle.ec_durable.specs.declared.state.Durable.{Durable}
 use Rattle.ec_durable.specs.WellFormed.{WellFormed, least_max_objects, most_max_objects}
-use Rattle.ec_table.specs.Codes.{table_code, described}
-use Rattle.ec_table.specs.declared.table.Table.{Table}
-use Rattle.ec_table.specs.declared.table.Version.{Version}
-use Rattle.ec_layout.specs.Places.{table_at, slot_at}
-use Rattle.ec_layout.specs.Head.{first_word, form}
+use Rattle.ec_stands.specs.OfTable.Codes.{table_code, described}
+use Rattle.ec_stands.specs.declared.table.table.Table.{Table}
+use Rattle.ec_stands.specs.declared.table.table.Version.{Version}
+use Rattle.ec_journal.specs.OfLayout.Places.{table_at, slot_at}
+use Rattle.ec_journal.specs.OfLayout.Head.{first_word, form}
 use Rattle.ec_stands.specs.Stands.{side_in, journal_in, most_in, table_part, fault_at, HasGoodHead, HasTable, HasImages, state_of, StepsTo, IsBadImage, HasBadImage, IsRefused, GoesOn, HasBadRecord, IsBadAt}
 use Rattle.ec_stands.specs.Stands.{no_image, another_image, short_head, other_word, other_most, other_form, bad_table, bad_slot, ill_formed, bad_record}
 use Rattle.ec_stands.specs.Laws.{read_clash, one_table, one_volume, one_end, steps_split, no_bad_image, refused_stops}

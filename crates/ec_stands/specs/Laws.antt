@@ -25,14 +25,14 @@ use Rattle.ec_durable.specs.declared.record.RecordFault.{RecordFault}
 use Rattle.ec_durable.specs.Durable.{step}
 use Rattle.ec_durable.specs.Codes.{said}
 use Rattle.ec_durable.specs.WellFormed.{WellFormed, least_max_objects, most_max_objects}
-use Rattle.ec_table.specs.Codes.{table_code, old_table, state_code, described}
-use Rattle.ec_table.specs.CodeLaws.{table_is}
-use Rattle.ec_table.specs.declared.table.Table.{Table}
-use Rattle.ec_table.specs.declared.table.Version.{Version}
-use Rattle.ec_table.specs.declared.table.Version.TheVariants.{One, Two}
-use Rattle.ec_layout.specs.Places.{journal_at, table_at, slot_at, side_of, journal_bytes, table_bytes, slot_bytes}
-use Rattle.ec_layout.specs.Layout.{Layout, Lies, HasSlots}
-use Rattle.ec_layout.specs.Head.{first_word, form}
+use Rattle.ec_stands.specs.OfTable.Codes.{table_code, old_table, state_code, described}
+use Rattle.ec_stands.specs.OfTable.CodeLaws.{table_is}
+use Rattle.ec_stands.specs.declared.table.table.Table.{Table}
+use Rattle.ec_stands.specs.declared.table.table.Version.{Version}
+use Rattle.ec_stands.specs.declared.table.table.Version.TheVariants.{One, Two}
+use Rattle.ec_journal.specs.OfLayout.Places.{journal_at, table_at, slot_at, side_of, journal_bytes, table_bytes, slot_bytes}
+use Rattle.ec_journal.specs.OfLayout.Layout.{Layout, Lies, HasSlots}
+use Rattle.ec_journal.specs.OfLayout.Head.{first_word, form}
 use Rattle.ec_stands.specs.Stands.{side_in, journal_in, most_in, table_part, slot_part, slot_code, HasGoodHead, HasTable, HasImage, HasImages, state_of, HasCheckpoint, StepsTo, StandsFor, IsBadImage, HasBadImage, IsRefused, GoesOn, HasBadRecord, IsBadAt}
 use Rattle.ec_stands.specs.Checkpoints.{AreSlotsIn, IsCheckpointIn, IsCheckpoint, AreSpelled, slots_in, IsReadBack, layout_in}
 use Rattle.ec_stands.specs.Stands.{no_image, another_image, no_record, no_step, short_head, other_word, other_most, other_form, bad_table, bad_slot, ill_formed, bad_record}

@@ -15,13 +15,13 @@ use Rattle.ec_durable.specs.declared.record.RecordFault.{RecordFault}
 use Rattle.ec_durable.specs.Durable.{step}
 use Rattle.ec_durable.specs.Codes.{said}
 use Rattle.ec_durable.specs.WellFormed.{WellFormed, least_max_objects, most_max_objects}
-use Rattle.ec_table.specs.Codes.{table_code, described}
-use Rattle.ec_table.specs.declared.table.Table.{Table}
-use Rattle.ec_table.specs.declared.table.Version.{Version}
-use Rattle.ec_table.specs.declared.table.Version.TheVariants.{One, Two}
-use Rattle.ec_layout.specs.declared.side.Side.{Side}
-use Rattle.ec_layout.specs.Places.{journal_at, table_at, slot_at, side_of, journal_bytes, table_bytes, slot_bytes}
-use Rattle.ec_layout.specs.Head.{first_word, form}
+use Rattle.ec_stands.specs.OfTable.Codes.{table_code, described}
+use Rattle.ec_stands.specs.declared.table.table.Table.{Table}
+use Rattle.ec_stands.specs.declared.table.table.Version.{Version}
+use Rattle.ec_stands.specs.declared.table.table.Version.TheVariants.{One, Two}
+use Rattle.ec_journal.specs.declared.layout.side.Side.{Side}
+use Rattle.ec_journal.specs.OfLayout.Places.{journal_at, table_at, slot_at, side_of, journal_bytes, table_bytes, slot_bytes}
+use Rattle.ec_journal.specs.OfLayout.Head.{first_word, form}
 
 -- What is read of an image.
 

@@ -4,7 +4,7 @@ ghost use Rattle.ec_durable.specs.declared.record.Record.{Record};
 ghost use Rattle.ec_durable.specs.declared.state.Durable.{Durable};
 ghost use Rattle.ec_durable.specs.Codes.{said};
 ghost use Rattle.ec_durable.specs.Durable.{step};
-ghost use Rattle.ec_layout.specs.Layout.{Layout, Lies};
+ghost use Rattle.ec_journal.specs.OfLayout.Layout.{Layout, Lies};
 ghost use Rattle.ec_stands.specs.Stands.{StandsFor, IsBadAt, StepsTo};
 ghost use Rattle.ec_stands.specs.Checkpoints.{IsCheckpoint};
 

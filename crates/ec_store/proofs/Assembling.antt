@@ -9,10 +9,10 @@ use Rattle.ec_sessions.specs.Slots.{Slots, all_unspent}
 use Rattle.ec_sessions.specs.SlotChecks.{AreSlots}
 use Rattle.ec_durable.specs.WellFormed.{WellFormed}
 use Rattle.ec_durable.proofs.Counts.{once_apart}
-use Rattle.ec_table.specs.Codes.{table_code, ids_in, numbers_in}
-use Rattle.ec_table.specs.declared.table.Table.{Table}
-use Rattle.ec_table.specs.declared.table.Version.{Version}
-use Rattle.ec_well_formed.specs.WellFormed.{state_with}
+use Rattle.ec_stands.specs.OfTable.Codes.{table_code, ids_in, numbers_in}
+use Rattle.ec_stands.specs.declared.table.table.Table.{Table}
+use Rattle.ec_stands.specs.declared.table.table.Version.{Version}
+use Rattle.ec_durable.specs.OfWellFormed.WellFormed.{state_with}
 use Rattle.ec_stands.specs.Stands.{state_of}
 use Rattle.ec_store.specs.Places.{ArePlaces}
 use Rattle.ec_store.proofs.Holding.{few_objects}

@@ -5,9 +5,9 @@ use Rattle.std.proofs.lemmas.Bool.{cases_lt, eqb-true, eqb-false}
 use Rattle.ec_disk.specs.Disk.{View, part}
 use Rattle.ec_disk.specs.Effects.{LeavesOnly}
 use Rattle.ec_durable.specs.declared.state.Durable.{Durable}
-use Rattle.ec_layout.specs.Head.{first_word}
-use Rattle.ec_layout.specs.Heads.{LiesIfWhole}
-use Rattle.ec_layout.specs.Layout.{Layout, Lies}
+use Rattle.ec_journal.specs.OfLayout.Head.{first_word}
+use Rattle.ec_journal.specs.OfLayout.Heads.{LiesIfWhole}
+use Rattle.ec_journal.specs.OfLayout.Layout.{Layout, Lies}
 use Rattle.ec_stands.specs.Stands.{StandsFor}
 use Rattle.ec_stands.specs.Stands.{short_head, other_word}
 use Rattle.ec_store.specs.Opening.{IsBadOrStands}

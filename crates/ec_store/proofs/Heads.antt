@@ -11,10 +11,10 @@ use Rattle.ec_codes.specs.Formats.{Read}
 use Rattle.ec_codes.specs.Spelling.{Spells, StandsAt, Fails}
 use Rattle.ec_codes.specs.declared.fault.CodeFault.{CodeFault}
 use Rattle.ec_codes.specs.declared.fault.CodeFault.TheVariants.{Short, Field, NoMemory}
-use Rattle.ec_table.specs.declared.table.Version.{Version}
-use Rattle.ec_layout.specs.declared.reading.Head.{Head}
-use Rattle.ec_layout.specs.Reading.{IsHead}
-use Rattle.ec_layout.specs.Places.{slot_at}
+use Rattle.ec_stands.specs.declared.table.table.Version.{Version}
+use Rattle.ec_journal.specs.declared.layout.reading.Head.{Head}
+use Rattle.ec_journal.specs.OfLayout.Reading.{IsHead}
+use Rattle.ec_journal.specs.OfLayout.Places.{slot_at}
 use Rattle.ec_stands.specs.Stands.{slot_code, slot_part, side_in, HasGoodHead, IsBadImage, IsBadAt}
 use Rattle.ec_stands.specs.Checkpoints.{IsSpelled}
 use Rattle.ec_stands.specs.Stands.{short_head, other_word, other_most, other_form, no_image, another_image}

@@ -27,20 +27,20 @@ use Rattle.ec_durable.specs.Codes.{record_code, said}
 use Rattle.ec_durable.specs.CodeLaws.{said_again}
 use Rattle.ec_durable.specs.WellFormed.{IsInOrder}
 use Rattle.ec_stands.proofs.Volumes.{step_well}
-use Rattle.ec_table.specs.Codes.{table_code, described, numbers_in, place_after}
-use Rattle.ec_table.specs.declared.table.Version.{Version}
-use Rattle.ec_table.specs.declared.table.Version.TheVariants.{Two}
-use Rattle.ec_layout.specs.Sides.{other}
-use Rattle.ec_layout.specs.declared.side.Side.{Side}
-use Rattle.ec_layout.specs.declared.side.Side.TheVariants as side
-use Rattle.ec_layout.specs.Layout.{Layout, Lies, Follows, IsAmong}
-use Rattle.ec_layout.specs.Appends.{with_body, LeavesBody}
-use Rattle.ec_layout.specs.Selected.{IsOn, side_now}
-use Rattle.ec_layout.specs.Free.{free_below}
-use Rattle.ec_layout.specs.Head.{first_word}
-use Rattle.ec_layout.specs.FreeLaws.{free_enough}
-use Rattle.ec_layout.specs.Pieces.{AreApart}
-use Rattle.ec_layout.specs.declared.selected.Selected.{Selected}
+use Rattle.ec_stands.specs.OfTable.Codes.{table_code, described, numbers_in, place_after}
+use Rattle.ec_stands.specs.declared.table.table.Version.{Version}
+use Rattle.ec_stands.specs.declared.table.table.Version.TheVariants.{Two}
+use Rattle.ec_journal.specs.OfLayout.Sides.{other}
+use Rattle.ec_journal.specs.declared.layout.side.Side.{Side}
+use Rattle.ec_journal.specs.declared.layout.side.Side.TheVariants as side
+use Rattle.ec_journal.specs.OfLayout.Layout.{Layout, Lies, Follows, IsAmong}
+use Rattle.ec_journal.specs.OfLayout.Appends.{with_body, LeavesBody}
+use Rattle.ec_journal.specs.OfLayout.Selected.{IsOn, side_now}
+use Rattle.ec_journal.specs.OfLayout.Free.{free_below}
+use Rattle.ec_journal.specs.OfLayout.Head.{first_word}
+use Rattle.ec_journal.specs.OfLayout.FreeLaws.{free_enough}
+use Rattle.ec_journal.specs.OfLayout.Pieces.{AreApart}
+use Rattle.ec_journal.specs.declared.layout.selected.Selected.{Selected}
 use Rattle.ec_stands.specs.Stands.{slot_code, StepsTo, StandsFor}
 use Rattle.ec_stands.specs.Checkpoints.{IsCheckpoint}
 use Rattle.ec_stands.specs.Laws.{lies_stands, lies_stands_in, steps_more}

@@ -11,7 +11,7 @@ use Rattle.ec_base.specs.Sorted.{without}
 use Rattle.ec_base.specs.SortedLaws.{find-without}
 use Rattle.ec_base.specs.Tables.{at}
 use Rattle.ec_volume.specs.Update.{member, distinct}
-use Rattle.ec_layout.specs.Free.{is_named, free_below}
+use Rattle.ec_journal.specs.OfLayout.Free.{is_named, free_below}
 use Rattle.ec_base.proofs.Bools.{or_none, both_false, either, or_left, or_right}
 
 pub clash : {A : Type 0} (b : Bool) → b ≡ true → b ≡ false → A

@@ -9,9 +9,9 @@ use Rattle.ec_volume.specs.Update.{member}
 use Rattle.ec_durable.specs.declared.state.Durable.{Durable}
 use Rattle.ec_durable.specs.WellFormed.{WellFormed}
 use Rattle.ec_journal.specs.Records.{records}
-use Rattle.ec_table.specs.Codes.{numbers_in}
-use Rattle.ec_table.specs.declared.table.Version.TheVariants.{One, Two}
-use Rattle.ec_layout.specs.Selected.{IsSelected}
+use Rattle.ec_stands.specs.OfTable.Codes.{numbers_in}
+use Rattle.ec_stands.specs.declared.table.table.Version.TheVariants.{One, Two}
+use Rattle.ec_journal.specs.OfLayout.Selected.{IsSelected}
 use Rattle.ec_stands.specs.Stands.{StandsFor}
 use Rattle.ec_stands.specs.Checkpoints.{IsReadBack}
 use Rattle.ec_store.specs.Opening.{IsOpened, IsOlder, WasLeftOrStands, IsSameOrStands}

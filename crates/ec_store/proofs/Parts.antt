@@ -12,11 +12,11 @@ use Rattle.ec_volume.specs.declared.image.Image.{Image}
 use Rattle.ec_codes.specs.declared.fault.CodeFault.{CodeFault}
 use Rattle.ec_codes.specs.declared.fault.CodeFault.TheVariants.{Short, Field, NoMemory}
 use Rattle.ec_codes.specs.SoundImages.{is_sound_image}
-use Rattle.ec_table.specs.Codes.{ids_in}
-use Rattle.ec_table.specs.declared.table.Version.{Version}
-use Rattle.ec_layout.specs.declared.reading.Head.{Head}
-use Rattle.ec_layout.specs.Reading.{IsHead}
-use Rattle.ec_layout.specs.Places.{side_of}
+use Rattle.ec_stands.specs.OfTable.Codes.{ids_in}
+use Rattle.ec_stands.specs.declared.table.table.Version.{Version}
+use Rattle.ec_journal.specs.declared.layout.reading.Head.{Head}
+use Rattle.ec_journal.specs.OfLayout.Reading.{IsHead}
+use Rattle.ec_journal.specs.OfLayout.Places.{side_of}
 use Rattle.ec_stands.specs.Stands.{slot_code, slot_part, HasImage, IsBadImage, HasBadImage, fault_at}
 use Rattle.ec_stands.specs.Checkpoints.{IsSpelled, AreSpelled}
 use Rattle.ec_stands.specs.Laws.{slot_is}

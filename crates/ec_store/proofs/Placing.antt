@@ -20,10 +20,10 @@ use Rattle.ec_codes.specs.Images.{image_code, image_form}
 use Rattle.ec_codes.specs.LengthLaws.{file_long, dir_long}
 use Rattle.ec_codes.specs.Formats.{rows_fit}
 use Rattle.ec_codes.specs.Fields.{id, word}
-use Rattle.ec_table.specs.Codes.{last_row, is_behind, is_above, id_above, ids_in, numbers_in, is_free, place_after}
-use Rattle.ec_table.specs.declared.table.Version.TheVariants.{Two}
-use Rattle.ec_layout.specs.Layout.{IsFree, AreFree, IsAmong, AreAmong}
-use Rattle.ec_layout.specs.Pieces.{AreApart}
+use Rattle.ec_stands.specs.OfTable.Codes.{last_row, is_behind, is_above, id_above, ids_in, numbers_in, is_free, place_after}
+use Rattle.ec_stands.specs.declared.table.table.Version.TheVariants.{Two}
+use Rattle.ec_journal.specs.OfLayout.Layout.{IsFree, AreFree, IsAmong, AreAmong}
+use Rattle.ec_journal.specs.OfLayout.Pieces.{AreApart}
 use Rattle.ec_stands.specs.Stands.{slot_code}
 use Rattle.ec_stands.specs.Checkpoints.{AreSlots}
 use Rattle.ec_store.specs.Places.{ArePlaces, AreSpare, IsPlaced, slot_of, rest_of, piece_of, placed, pieces}

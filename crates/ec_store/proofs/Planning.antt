@@ -8,9 +8,9 @@ use Rattle.ec_volume.specs.declared.image.Image.{Image}
 use Rattle.ec_volume.specs.declared.image.Image.TheVariants.{Gone}
 use Rattle.ec_volume.proofs.Held.{images_find}
 use Rattle.ec_durable.specs.WellFormed.{WellFormed}
-use Rattle.ec_layout.specs.Head.{first_word, form}
-use Rattle.ec_layout.specs.Layout.{IsFree, IsAmong}
-use Rattle.ec_layout.specs.declared.side.Side.TheVariants as side
+use Rattle.ec_journal.specs.OfLayout.Head.{first_word, form}
+use Rattle.ec_journal.specs.OfLayout.Layout.{IsFree, IsAmong}
+use Rattle.ec_journal.specs.declared.layout.side.Side.TheVariants as side
 use Rattle.ec_stands.specs.Stands.{slot_code, StandsFor}
 use Rattle.ec_stands.specs.Checkpoints.{AreSlots, IsCheckpoint}
 use Rattle.ec_stands.specs.Laws.{lies_stands, lies_stands_in}
@@ -23,15 +23,15 @@ use Rattle.ec_disk.specs.Effects.{LeavesOnly}
 use Rattle.ec_durable.specs.declared.state.Durable.{Durable}
 use Rattle.ec_durable.specs.declared.record.Record.{Record}
 use Rattle.ec_durable.specs.WellFormed.{IsInOrder}
-use Rattle.ec_table.specs.Codes.{table_code, described, numbers_in}
-use Rattle.ec_table.specs.declared.table.Version.{Version}
-use Rattle.ec_table.specs.declared.table.Version.TheVariants.{Two}
-use Rattle.ec_layout.specs.Sides.{other}
-use Rattle.ec_layout.specs.Layout.{Layout, Lies, Follows}
-use Rattle.ec_layout.specs.Selected.{IsOn, side_now}
-use Rattle.ec_layout.specs.Free.{free_below}
-use Rattle.ec_layout.specs.Pieces.{AreApart, pieces_of}
-use Rattle.ec_layout.specs.declared.selected.Selected.{Selected}
+use Rattle.ec_stands.specs.OfTable.Codes.{table_code, described, numbers_in}
+use Rattle.ec_stands.specs.declared.table.table.Version.{Version}
+use Rattle.ec_stands.specs.declared.table.table.Version.TheVariants.{Two}
+use Rattle.ec_journal.specs.OfLayout.Sides.{other}
+use Rattle.ec_journal.specs.OfLayout.Layout.{Layout, Lies, Follows}
+use Rattle.ec_journal.specs.OfLayout.Selected.{IsOn, side_now}
+use Rattle.ec_journal.specs.OfLayout.Free.{free_below}
+use Rattle.ec_journal.specs.OfLayout.Pieces.{AreApart, pieces_of}
+use Rattle.ec_journal.specs.declared.layout.selected.Selected.{Selected}
 use Rattle.ec_store.specs.Places.{ArePlaces, placed, pieces}
 use Rattle.ec_store.specs.Plan.{IsPlan, PlansFor}
 use Rattle.ec_store.specs.Store.{StoreHolds, HoldsIn, StandsForEither}

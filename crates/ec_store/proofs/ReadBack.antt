@@ -18,16 +18,16 @@ use Rattle.ec_journal.specs.Records.{records, Front, HasBodies, RunsPast}
 use Rattle.ec_journal.specs.Laws.{records-append}
 use Rattle.ec_journal.specs.Journal.{IsFound}
 use Rattle.ec_journal.specs.declared.read.Found.{Found}
-use Rattle.ec_table.specs.Codes.{table_code, described, numbers_in}
-use Rattle.ec_table.specs.CodeLaws.{table_is}
-use Rattle.ec_table.specs.declared.table.Table.{Table}
-use Rattle.ec_table.specs.declared.table.Version.{Version}
-use Rattle.ec_table.specs.declared.table.Version.TheVariants.{Two}
-use Rattle.ec_layout.specs.Places.{journal_at, table_at}
-use Rattle.ec_layout.specs.Layout.{Lies, IsFree, IsAmong}
-use Rattle.ec_layout.specs.Selected.{IsSelected, IsOn}
-use Rattle.ec_layout.specs.declared.side.Side.{Side}
-use Rattle.ec_layout.specs.declared.selected.Selected.{Selected}
+use Rattle.ec_stands.specs.OfTable.Codes.{table_code, described, numbers_in}
+use Rattle.ec_stands.specs.OfTable.CodeLaws.{table_is}
+use Rattle.ec_stands.specs.declared.table.table.Table.{Table}
+use Rattle.ec_stands.specs.declared.table.table.Version.{Version}
+use Rattle.ec_stands.specs.declared.table.table.Version.TheVariants.{Two}
+use Rattle.ec_journal.specs.OfLayout.Places.{journal_at, table_at}
+use Rattle.ec_journal.specs.OfLayout.Layout.{Lies, IsFree, IsAmong}
+use Rattle.ec_journal.specs.OfLayout.Selected.{IsSelected, IsOn}
+use Rattle.ec_journal.specs.declared.layout.side.Side.{Side}
+use Rattle.ec_journal.specs.declared.layout.selected.Selected.{Selected}
 use Rattle.ec_stands.specs.Stands.{side_in, journal_in, most_in, table_part, slot_code, HasGoodHead, HasTable, HasImages, HasBadImage, state_of, HasCheckpoint, StepsTo, StandsFor, IsBadAt, fault_at}
 use Rattle.ec_stands.specs.Checkpoints.{AreSlotsIn, AreSpelled, IsReadBack, layout_in}
 use Rattle.ec_stands.specs.Stands.{bad_table, bad_slot, ill_formed, bad_record}

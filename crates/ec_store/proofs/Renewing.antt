@@ -5,14 +5,14 @@ use Rattle.ec_disk.specs.Disk.{View}
 use Rattle.ec_disk.specs.Effects.{IsSynced, LeavesOnly}
 use Rattle.ec_durable.specs.WellFormed.{WellFormed}
 use Rattle.ec_journal.specs.Records.{records}
-use Rattle.ec_table.specs.Codes.{table_code, described, numbers_in}
-use Rattle.ec_table.specs.declared.table.Version.{Version}
-use Rattle.ec_table.specs.declared.table.Version.TheVariants.{One, Two}
-use Rattle.ec_layout.specs.Sides.{other}
-use Rattle.ec_layout.specs.Layout.{Layout, Lies, Follows}
-use Rattle.ec_layout.specs.Selected.{IsSelected, IsOn, side_now}
-use Rattle.ec_layout.specs.Pieces.{AreApart, pieces_of}
-use Rattle.ec_layout.specs.declared.selected.Selected.{Selected}
+use Rattle.ec_stands.specs.OfTable.Codes.{table_code, described, numbers_in}
+use Rattle.ec_stands.specs.declared.table.table.Version.{Version}
+use Rattle.ec_stands.specs.declared.table.table.Version.TheVariants.{One, Two}
+use Rattle.ec_journal.specs.OfLayout.Sides.{other}
+use Rattle.ec_journal.specs.OfLayout.Layout.{Layout, Lies, Follows}
+use Rattle.ec_journal.specs.OfLayout.Selected.{IsSelected, IsOn, side_now}
+use Rattle.ec_journal.specs.OfLayout.Pieces.{AreApart, pieces_of}
+use Rattle.ec_journal.specs.declared.layout.selected.Selected.{Selected}
 use Rattle.ec_stands.specs.Stands.{StandsFor}
 use Rattle.ec_store.specs.Places.{ArePlaces}
 use Rattle.ec_store.specs.Plan.{IsPlan}

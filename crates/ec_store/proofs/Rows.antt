@@ -19,10 +19,10 @@ use Rattle.ec_sessions.specs.Slots.{Slots, slot_at, unspent_of, all_unspent}
 use Rattle.ec_sessions.specs.SlotChecks.{AreSlots}
 use Rattle.ec_sessions.specs.declared.slot.Slot.{Slot}
 use Rattle.ec_sessions.proofs.Rising.{increasing_from}
-use Rattle.ec_table.specs.Codes.{last_row, is_behind, is_above, id_above, ids_field, last_first_field, slot_fields, fields_of, slot_tag, slot_form, slot_code, slots_field, ids_in, place_after, places_field, state_fields, state_code, parts_of, old_table, new_table, table_code}
-use Rattle.ec_table.specs.declared.table.Table.{Table}
-use Rattle.ec_table.specs.declared.table.Version.{Version}
-use Rattle.ec_table.specs.declared.table.Version.TheVariants.{One, Two}
+use Rattle.ec_stands.specs.OfTable.Codes.{last_row, is_behind, is_above, id_above, ids_field, last_first_field, slot_fields, fields_of, slot_tag, slot_form, slot_code, slots_field, ids_in, place_after, places_field, state_fields, state_code, parts_of, old_table, new_table, table_code}
+use Rattle.ec_stands.specs.declared.table.table.Table.{Table}
+use Rattle.ec_stands.specs.declared.table.table.Version.{Version}
+use Rattle.ec_stands.specs.declared.table.table.Version.TheVariants.{One, Two}
 use Rattle.ec_store.proofs.Members.{less_is}
 use Rattle.ec_store.proofs.Placing.{last_push, ids_push}
 use Rattle.ec_base.proofs.Lists.{Above, Rises}

@@ -2,7 +2,7 @@
 use Rattle.std.proofs.Common.{ℕ, ◌+◌, ◌<◌, ◌≤◌, Option, ⊎_elim, refl, arith, inl, inr}
 use Rattle.std.proofs.lemmas.Bool.{cases_lt}
 use Rattle.ec_journal.specs.Ends.{TurnedUpTo}
-use Rattle.ec_layout.proofs.Calls.{turns_none, turns_within}
+use Rattle.ec_journal.proofs.OfLayout.Calls.{turns_none, turns_within}
 use Rattle.ec_store.specs.Store.{CommitTurns}
 
 pub commit_room : (need free : ℕ) (a b : Option ℕ) (G S : Type 0) → need ≤ free → TurnedUpTo 4 a b G S → CommitTurns need free a b G S

@@ -6,9 +6,9 @@ use Rattle.ec_codes.specs.Spelling.{StandsAt}
 use Rattle.ec_volume.specs.Update.{member}
 use Rattle.ec_durable.specs.declared.state.Durable.{Durable}
 use Rattle.ec_journal.specs.Records.{records}
-use Rattle.ec_table.specs.Codes.{table_code, described}
-use Rattle.ec_table.specs.declared.table.Version.{Version}
-use Rattle.ec_table.specs.declared.table.Version.TheVariants.{One}
+use Rattle.ec_stands.specs.OfTable.Codes.{table_code, described}
+use Rattle.ec_stands.specs.declared.table.table.Version.{Version}
+use Rattle.ec_stands.specs.declared.table.table.Version.TheVariants.{One}
 use Rattle.ec_stands.specs.Stands.{side_in, table_part, HasGoodHead, StepsTo, StandsFor, IsBadAt}
 use Rattle.ec_stands.specs.Checkpoints.{AreSpelled, IsReadBack}
 use Rattle.ec_store.specs.Replay.{Spares, IsUntouched}

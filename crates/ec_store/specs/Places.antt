@@ -7,7 +7,7 @@ use Rattle.ec_volume.specs.declared.image.Image.{Image}
 use Rattle.ec_codes.specs.Fields.{id}
 use Rattle.ec_durable.specs.declared.record.Record.{Record}
 use Rattle.ec_durable.specs.declared.record.Record.TheVariants.{Batch}
-use Rattle.ec_table.specs.declared.table.Version.TheVariants.{Two}
+use Rattle.ec_stands.specs.declared.table.table.Version.TheVariants.{Two}
 use Rattle.ec_stands.specs.Stands.{slot_code}
 
 -- The slots that a table names, and in which of them the images of some objects stand, by their ids.

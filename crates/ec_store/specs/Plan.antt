@@ -3,14 +3,14 @@ use Rattle.std.specs.Prelude.{◌≡◌, ◌≤◌, ◌*◌, ℕ, true, None, if
 use Rattle.ec_base.specs.Tables.{at}
 use Rattle.ec_volume.specs.Update.{member}
 use Rattle.ec_durable.specs.declared.state.Durable.{Durable}
-use Rattle.ec_table.specs.Codes.{table_code, described}
-use Rattle.ec_table.specs.declared.table.Version.TheVariants.{Two}
-use Rattle.ec_layout.specs.Places.{table_bytes}
+use Rattle.ec_stands.specs.OfTable.Codes.{table_code, described}
+use Rattle.ec_stands.specs.declared.table.table.Version.TheVariants.{Two}
+use Rattle.ec_journal.specs.OfLayout.Places.{table_bytes}
 use Rattle.std.specs.List.{All}
 use Rattle.ec_volume.specs.declared.image.Image.{Image}
-use Rattle.ec_table.specs.Codes.{numbers_in}
-use Rattle.ec_layout.specs.Free.{free_below}
-use Rattle.ec_layout.specs.Pieces.{pieces_of}
+use Rattle.ec_stands.specs.OfTable.Codes.{numbers_in}
+use Rattle.ec_journal.specs.OfLayout.Free.{free_below}
+use Rattle.ec_journal.specs.OfLayout.Pieces.{pieces_of}
 use Rattle.ec_store.specs.Places.{IsPlaced, placed, pieces}
 use Rattle.ec_store.specs.declared.plan.Plan.{Plan}
 

@@ -13,11 +13,11 @@ use Rattle.ec_durable.specs.declared.state.Durable.{Durable}
 use Rattle.ec_durable.specs.declared.record.Record.{Record}
 use Rattle.ec_durable.specs.Durable.{step}
 use Rattle.ec_durable.specs.WellFormed.{WellFormed}
-use Rattle.ec_table.specs.declared.table.Version.{Version}
-use Rattle.ec_table.specs.declared.table.Version.TheVariants.{Two}
-use Rattle.ec_layout.specs.Layout.{Layout, IsFree, IsAmong}
-use Rattle.ec_layout.specs.Selected.{IsOn}
-use Rattle.ec_layout.specs.declared.selected.Selected.{Selected}
+use Rattle.ec_stands.specs.declared.table.table.Version.{Version}
+use Rattle.ec_stands.specs.declared.table.table.Version.TheVariants.{Two}
+use Rattle.ec_journal.specs.OfLayout.Layout.{Layout, IsFree, IsAmong}
+use Rattle.ec_journal.specs.OfLayout.Selected.{IsOn}
+use Rattle.ec_journal.specs.declared.layout.selected.Selected.{Selected}
 use Rattle.ec_stands.specs.Stands.{slot_code, StepsTo, StandsFor}
 use Rattle.ec_stands.specs.Checkpoints.{IsCheckpointIn}
 use Rattle.ec_store.specs.Replay.{IsUntouched}

@@ -10,9 +10,9 @@ ghost use Rattle.ec_disk.specs.Effects.{Rests, Counted};
 ghost use Rattle.ec_codes.specs.SoundImages.{is_sound_image};
 ghost use Rattle.ec_durable.specs.WellFormed.{WellFormed, least_max_objects, most_max_objects};
 ghost use Rattle.ec_durable.specs.declared.record.RecordFault.{RecordFault};
-ghost use Rattle.ec_table.specs.Codes.{table_code, ids_in, numbers_in};
+ghost use Rattle.ec_stands.specs.OfTable.Codes.{table_code, ids_in, numbers_in};
 ghost use Rattle.ec_journal.specs.Journal.{IsFound};
-ghost use Rattle.ec_layout.specs.Places as place;
+ghost use Rattle.ec_journal.specs.OfLayout.Places as place;
 ghost use Rattle.ec_stands.specs.Stands.{side_in, state_of, HasGoodHead, IsBadAt};
 ghost use Rattle.ec_store.specs.Places.{ArePlaces};
 ghost use Rattle.ec_store.specs.Opening.{IsReadIn, IsOpened};
@@ -24,12 +24,12 @@ use crate::replay::replay;
 use ec_base::{NoMemory, ObjId};
 use ec_disk::{Disk, DiskLen};
 use ec_durable::Durable;
+use ec_durable::well_formed::is_well_formed;
+use ec_journal::layout::{Head, JOURNAL_BYTES, Side};
 use ec_journal::{Found, read_records};
-use ec_layout::{Head, JOURNAL_BYTES, Side};
 use ec_sessions::Sessions;
-use ec_table::{Table, Version};
+use ec_stands::table::{Table, Version};
 use ec_volume::{SharedImage, Volume};
-use ec_well_formed::is_well_formed;
 use std::alloc::Global;
 
 /// The checkpoint that a disk holds.

@@ -7,7 +7,7 @@ ghost use Rattle.ec_durable.specs.WellFormed.{WellFormed};
 ghost use Rattle.ec_durable.specs.declared.record.RecordFault.{RecordFault};
 ghost use Rattle.ec_durable.specs.declared.record.RecordFault.TheVariants as refusal;
 ghost use Rattle.ec_journal.specs.Records.{records};
-ghost use Rattle.ec_layout.specs.Places.{journal_bytes};
+ghost use Rattle.ec_journal.specs.OfLayout.Places.{journal_bytes};
 ghost use Rattle.ec_stands.specs.Stands.{StepsTo, IsRefused};
 ghost use Rattle.ec_store.specs.Replay.{Steps, Spares, Avoids, IsUntouched, HasRefused};
 ghost use Rattle.ec_store.specs.declared.fault.StoreFault.TheVariants as fault;

@@ -3,7 +3,7 @@
 use crate::stores::{commit, fill_all, filled, formatted, old};
 use ec_disk::{Disk, DiskAnswer, DiskLen, MemDisk, Step};
 use ec_durable::{Durable, RecordFault};
-use ec_layout::Side;
+use ec_journal::layout::Side;
 use ec_store::{Store, StoreFault};
 use std::alloc::Global;
 

@@ -9,6 +9,7 @@ mod checkpoints;
 mod codes;
 #[cfg(test)]
 mod durable;
+pub mod mirror_tests;
 #[cfg(test)]
 mod stops;
 #[cfg(test)]

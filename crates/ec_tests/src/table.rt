@@ -1,7 +1,7 @@
 //! Tables by their bytes.
 
 use ec_codes::CodeFault;
-use ec_table::{Version, get_table};
+use ec_stands::table::{Version, get_table};
 use std::alloc::Global;
 
 // The table of a formatted volume in version 1: the root in slot 0.

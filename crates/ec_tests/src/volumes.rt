@@ -1,8 +1,8 @@
 //! Directories that stand alone: with the id of the root they're a well-formed volume.
 
 use ec_base::{NoMemory, ObjId};
+use ec_durable::well_formed::is_well_formed_volume;
 use ec_volume::{Entries, Image, SharedImage, Volume};
-use ec_well_formed::is_well_formed_volume;
 use std::alloc::Global;
 
 fn alone(alloc: Global, id: ObjId) -> Result<Volume, NoMemory> {

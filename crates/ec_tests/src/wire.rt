@@ -1,7 +1,7 @@
 //! Messages by their bytes, and bytes that are no message.
 
 use ec_base::{Age, ClerkId, NoMemory, SessionNo};
-use ec_frame::frame;
+use ec_streams::frame::frame;
 use ec_wire::{Msg, WireFault, decode, encode};
 use std::alloc::Global;
 

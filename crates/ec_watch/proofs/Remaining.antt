@@ -12,7 +12,7 @@ use Rattle.ec_base.specs.SortedLaws.{first, second, below_each, below_first, non
 use Rattle.ec_volume.specs.Update.{member}
 use Rattle.ec_watch.specs.Left.{left}
 use Rattle.ec_base.proofs.Numbers.{itself, flip_too}
-use Rattle.ec_numbers.proofs.Indexes.{member-append}
+use Rattle.ec_order.proofs.OfNumbers.Indexes.{member-append}
 
 same-number : (m n : ℕ) → (m == n) ≡ true → m ≡ n
 same-number m n e = grind (arith, nat_tests)

@@ -7,7 +7,7 @@ ghost use Rattle.ec_history.specs.Placing.{shows, unwatched, begun, answered, ow
 
 use ec_base::{ClerkId, Duplicate, List, NoMemory, OpNo};
 use ec_history::{Answer, Shown, Watch};
-use ec_numbers::Numbers;
+use ec_order::numbers::Numbers;
 use ec_plain::{Call, Refusal, Reply};
 use std::alloc::Global;
 use std::mem;

@@ -7,3 +7,4 @@ pub mod Spelling
 pub mod Examples
 pub mod Calls
 pub mod SomeCall
+pub mod OfText

@@ -11,6 +11,7 @@ mod paths;
 mod pieces;
 mod spell;
 mod spelled;
+pub mod text;
 
 pub use call::read_call;
 pub use cursor::{Misfit, Words, column_left};

@@ -3,7 +3,7 @@ use Rattle.std.proofs.Common.{◌≡◌, ◌+◌, ℕ, Bool, false, List, [], Op
 use Rattle.ec_base.specs.Tables.{Table, at, put}
 use Rattle.ec_plain.specs.declared.call.Call.{Call}
 use Rattle.ec_wire.specs.declared.msg.Msg.{Msg}
-use Rattle.ec_pool.specs.Pools.{Pooled, with_pool}
+use Rattle.ec_protocol.specs.OfPool.Pools.{Pooled, with_pool}
 use Rattle.ec_protocol.specs.declared.clerk.Clerk.{Clerk}
 use Rattle.ec_protocol.specs.declared.clerk.Out.{Out}
 use Rattle.ec_protocol.specs.declared.world.Sent.{Sent}
@@ -13,7 +13,7 @@ use Rattle.ec_protocol.specs.Clerk as clerk
 use Rattle.ec_protocol.specs.World as machine
 use Rattle.ec_protocol.specs.World.{Fate, Moving, moving, come_out, clerk_does, is_for_server, settled, to_clerk, deliver, call}
 use Rattle.ec_world.specs.Calls.{call_begun}
-use Rattle.ec_running.specs.Running.{Steps, StaysAbsent, StartsRunning}
+use Rattle.ec_clerk.specs.OfRunning.Running.{Steps, StaysAbsent, StartsRunning}
 use Rattle.ec_world.specs.Sending.{IsFor}
 use Rattle.ec_world.proofs.Calls.{does_is, call_runs, call_on_is, start_is, with_boot}
 use Rattle.ec_world.proofs.Pooled.{deliver_clerk}

@@ -14,7 +14,7 @@ use Rattle.ec_protocol.specs.declared.world.World.{World as Moved}
 use Rattle.ec_server.specs.declared.server.Server.{Server}
 use Rattle.ec_store.specs.Store.{IsHeld, view_of as state_of}
 use Rattle.ec_store.specs.declared.store.Store.{Store}
-use Rattle.ec_trace.specs.declared.Trace.{Trace}
+use Rattle.ec_base.specs.declared.trace.Trace.{Trace}
 use Rattle.ec_world.proofs.Fresh.{fresh}
 use Rattle.ec_world.specs.Cutting.{left_of}
 use Rattle.ec_world.specs.Laws.{in_step_keeps}

@@ -9,7 +9,7 @@ use Rattle.ec_durable.specs.Durable.{slot}
 use Rattle.ec_durable.specs.declared.state.Durable.{Durable}
 use Rattle.ec_sessions.specs.Slots.{is_open}
 use Rattle.ec_stands.specs.Stands.{StandsFor}
-use Rattle.ec_pool.specs.Pools.{Pooled, with_pool}
+use Rattle.ec_protocol.specs.OfPool.Pools.{Pooled, with_pool}
 use Rattle.ec_protocol.specs.Server.{Serving}
 use Rattle.ec_protocol.specs.Server as server
 use Rattle.ec_protocol.specs.declared.server.Server.{Server as State}
@@ -22,15 +22,15 @@ use Rattle.ec_server.specs.Servers.{standing}
 use Rattle.ec_server.specs.declared.server.Server.{Server}
 use Rattle.ec_store.specs.Store.{IsHeld, view_of as state_of}
 use Rattle.ec_store.specs.declared.store.Store.{Store}
-use Rattle.ec_running.specs.Faults.{of_step}
+use Rattle.ec_clerk.specs.OfRunning.Faults.{of_step}
 use Rattle.ec_marking.specs.Keeping.{Unchanged}
 use Rattle.ec_marking.specs.Held.{held_stands}
 use Rattle.ec_world.specs.Laws.{in_step_stands}
 use Rattle.ec_world.specs.Serving.{serves, Breaks}
 use Rattle.ec_world.specs.StepEnds.{Fated, RefusesEvent, IsLeft, as_before, under}
 use Rattle.ec_world.specs.Worlds.{view_of, server_of, ServerStands, IsInStep, KeepsServer}
-use Rattle.ec_running.specs.declared.fault.StepFault.{StepFault}
-use Rattle.ec_running.specs.declared.fault.StepFault.TheVariants as step_fault
+use Rattle.ec_clerk.specs.declared.running.fault.StepFault.{StepFault}
+use Rattle.ec_clerk.specs.declared.running.fault.StepFault.TheVariants as step_fault
 use Rattle.ec_world.specs.declared.world.World.{World}
 use Rattle.ec_marking.proofs.Runs.{run_same}
 use Rattle.ec_world.proofs.Served.{deliver_server}

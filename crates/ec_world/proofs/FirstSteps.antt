@@ -22,7 +22,7 @@ use Rattle.ec_sessions.specs.Slots as slots
 use Rattle.ec_stands.specs.Stands.{StandsFor}
 use Rattle.ec_store.specs.Store.{IsHeld, view_of}
 use Rattle.ec_store.specs.declared.store.Store.{Store}
-use Rattle.ec_trace.specs.declared.Trace.{Trace}
+use Rattle.ec_base.specs.declared.trace.Trace.{Trace}
 use Rattle.ec_marking.specs.Keeping.{IsDone, CameOf, Unchanged, IfDone}
 use Rattle.ec_marking.specs.Held.{held_stands}
 use Rattle.ec_marking.specs.Marks.{RecordIsMarked as Marked, MarkOf}

@@ -12,12 +12,12 @@ use Rattle.ec_protocol.specs.declared.world.Event.TheVariants as event
 use Rattle.ec_server.specs.declared.server.Server.{Server}
 use Rattle.ec_store.specs.Store.{IsHeld, view_of as state_of}
 use Rattle.ec_store.specs.declared.store.Store.{Store}
-use Rattle.ec_running.specs.Faults.{of_step}
+use Rattle.ec_clerk.specs.OfRunning.Faults.{of_step}
 use Rattle.ec_marking.specs.KeptRuns.{HasRun}
 use Rattle.ec_world.specs.StepEnds.{under, Fated, RefusesEvent, Declines, behind_arm, CountsOf, IsLeft}
 use Rattle.ec_world.specs.Worlds.{view_of, ServerStands, IsInStep}
-use Rattle.ec_running.specs.declared.fault.StepFault.{StepFault}
-use Rattle.ec_running.specs.declared.fault.StepFault.TheVariants as step
+use Rattle.ec_clerk.specs.declared.running.fault.StepFault.{StepFault}
+use Rattle.ec_clerk.specs.declared.running.fault.StepFault.TheVariants as step
 use Rattle.ec_world.specs.declared.world.World.{World}
 use Rattle.ec_marking.proofs.Runs.{run_same}
 use Rattle.ec_world.proofs.Quiet.{refuses}

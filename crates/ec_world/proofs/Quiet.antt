@@ -11,12 +11,12 @@ use Rattle.ec_protocol.specs.World.{Fate, runs, Moving}
 use Rattle.ec_protocol.specs.declared.world.World.{World as State}
 use Rattle.ec_protocol.specs.declared.world.WorldFault.{WorldFault}
 use Rattle.ec_protocol.specs.declared.world.WorldFault.TheVariants as world
-use Rattle.ec_running.specs.Faults.{of_step}
+use Rattle.ec_clerk.specs.OfRunning.Faults.{of_step}
 use Rattle.ec_world.specs.Laws.{in_step_keeps, in_step_stands}
 use Rattle.ec_world.specs.StepEnds.{Fated, RefusesEvent, Declines, IsLeft, as_before}
 use Rattle.ec_world.specs.Worlds.{view_of, IsInStep, KeepsServer}
-use Rattle.ec_running.specs.declared.fault.StepFault.{StepFault}
-use Rattle.ec_running.specs.declared.fault.StepFault.TheVariants as step
+use Rattle.ec_clerk.specs.declared.running.fault.StepFault.{StepFault}
+use Rattle.ec_clerk.specs.declared.running.fault.StepFault.TheVariants as step
 use Rattle.ec_world.specs.declared.world.World.{World}
 use Rattle.ec_marking.proofs.Runs.{run_same}
 

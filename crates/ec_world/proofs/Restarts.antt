@@ -13,14 +13,14 @@ use Rattle.ec_stands.specs.Stands.{StandsFor}
 use Rattle.ec_store.specs.Store.{view_of as state_of}
 use Rattle.ec_store.specs.declared.store.Store.{Store}
 use Rattle.ec_world.proofs.Finish.{finished}
-use Rattle.ec_running.specs.Faults.{of_step}
+use Rattle.ec_clerk.specs.OfRunning.Faults.{of_step}
 use Rattle.ec_marking.specs.Keeping.{Unchanged, HasStoppedIn, RunsIn}
 use Rattle.ec_marking.specs.Held.{held_stands}
 use Rattle.ec_world.specs.Laws.{in_step_stands}
 use Rattle.ec_world.specs.Serving.{serves, CameUp, Finishes, ArmsBehind}
 use Rattle.ec_world.specs.StepEnds.{Fated, IsLeft, under}
 use Rattle.ec_world.specs.Worlds.{view_of, server_of, IsInStep}
-use Rattle.ec_running.specs.declared.fault.StepFault.TheVariants as step_fault
+use Rattle.ec_clerk.specs.declared.running.fault.StepFault.TheVariants as step_fault
 use Rattle.ec_marking.specs.declared.keeping.Came.{Came}
 use Rattle.ec_world.specs.declared.world.World.{World}
 

@@ -31,8 +31,8 @@ use Rattle.ec_world.specs.Serving.{serves, with_durable, left_in, CameUp, Finish
 use Rattle.ec_marking.specs.Signs.{sign_of}
 use Rattle.ec_world.specs.StepEnds.{IsLeft, under}
 use Rattle.ec_world.specs.Worlds.{view_of, server_of}
-use Rattle.ec_running.specs.declared.fault.StepFault.{StepFault}
-use Rattle.ec_running.specs.declared.fault.StepFault.TheVariants as step_fault
+use Rattle.ec_clerk.specs.declared.running.fault.StepFault.{StepFault}
+use Rattle.ec_clerk.specs.declared.running.fault.StepFault.TheVariants as step_fault
 use Rattle.ec_marking.specs.declared.keeping.Came.{Came}
 use Rattle.ec_marking.specs.declared.keeping.Came.TheVariants as came
 use Rattle.ec_marking.specs.declared.marks.Mark.{Mark}

@@ -12,13 +12,13 @@ use Rattle.ec_protocol.specs.declared.world.Event.{Event}
 use Rattle.ec_protocol.specs.declared.world.Event.TheVariants as event
 use Rattle.ec_protocol.specs.declared.world.WorldFault.{WorldFault}
 use Rattle.ec_protocol.specs.declared.world.WorldFault.TheVariants as world
-use Rattle.ec_running.specs.Faults.{of_step}
+use Rattle.ec_clerk.specs.OfRunning.Faults.{of_step}
 use Rattle.ec_world.specs.Laws.{in_step_keeps}
 use Rattle.ec_world.specs.Steps.{IsShown}
 use Rattle.ec_world.specs.StepEnds.{under, Fated, FateOf, IsTold, RefusesEvent, CountsOf}
 use Rattle.ec_world.specs.Worlds.{view_of, IsInStep, KeepsServer}
-use Rattle.ec_running.specs.declared.fault.StepFault.{StepFault}
-use Rattle.ec_running.specs.declared.fault.StepFault.TheVariants as step
+use Rattle.ec_clerk.specs.declared.running.fault.StepFault.{StepFault}
+use Rattle.ec_clerk.specs.declared.running.fault.StepFault.TheVariants as step
 use Rattle.ec_world.specs.declared.world.World.{World}
 use Rattle.ec_world.proofs.Quiet.{uncounted}
 

@@ -12,7 +12,7 @@ use Rattle.ec_protocol.specs.declared.server.Server.{Server}
 use Rattle.ec_server.specs.declared.server.Server.{Server as Code}
 use Rattle.ec_store.specs.declared.fault.StoreFault.{StoreFault}
 use Rattle.ec_store.specs.declared.fault.StoreFault.TheVariants as store
-use Rattle.ec_trace.specs.declared.Trace.{Trace}
+use Rattle.ec_base.specs.declared.trace.Trace.{Trace}
 use Rattle.ec_marking.specs.declared.keeping.Came.{Came}
 use Rattle.ec_marking.specs.declared.keeping.Came.TheVariants.{Done, Stopped}
 use Rattle.ec_marking.specs.declared.keeping.Came.TheVariants as came

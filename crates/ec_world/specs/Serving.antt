@@ -17,8 +17,8 @@ use Rattle.ec_store.specs.declared.store.Store.{Store}
 use Rattle.ec_marking.specs.Keeping.{IsDone, CameOf}
 use Rattle.ec_world.specs.Steps.{IsShown}
 use Rattle.ec_world.specs.StepEnds.{IsTold}
-use Rattle.ec_running.specs.declared.fault.StepFault.{StepFault}
-use Rattle.ec_running.specs.declared.fault.StepFault.TheVariants as step
+use Rattle.ec_clerk.specs.declared.running.fault.StepFault.{StepFault}
+use Rattle.ec_clerk.specs.declared.running.fault.StepFault.TheVariants as step
 use Rattle.ec_marking.specs.declared.keeping.Came.{Came}
 use Rattle.ec_marking.specs.declared.keeping.Came.TheVariants as came
 use Rattle.ec_marking.specs.declared.marks.Mark.{Mark}

@@ -12,8 +12,8 @@ use Rattle.ec_protocol.specs.World.{Fate, runs, stops_without, stops_with, Movin
 use Rattle.ec_protocol.specs.declared.world.World.{World as State}
 use Rattle.ec_marking.specs.KeptRuns.{HasRun}
 use Rattle.ec_world.specs.Worlds.{view_of}
-use Rattle.ec_running.specs.declared.fault.StepFault.{StepFault}
-use Rattle.ec_running.specs.declared.fault.StepFault.TheVariants as step
+use Rattle.ec_clerk.specs.declared.running.fault.StepFault.{StepFault}
+use Rattle.ec_clerk.specs.declared.running.fault.StepFault.TheVariants as step
 use Rattle.ec_world.specs.declared.world.World.{World}
 use Rattle.ec_protocol.specs.declared.world.Event.{Event}
 use Rattle.ec_protocol.specs.declared.world.Event.TheVariants.{Arm}

@@ -6,9 +6,9 @@ ghost use Rattle.ec_world.specs.StepEnds.{under};
 
 use crate::world::World;
 use ec_base::{ClerkId, NoMemory, OpNo};
+use ec_clerk::running::take_call;
 use ec_history::{Answer, Shown};
 use ec_protocol::Out;
-use ec_running::take_call;
 use std::alloc::Global;
 
 impl World {

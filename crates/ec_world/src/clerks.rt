@@ -10,11 +10,11 @@ ghost use Rattle.ec_world.specs.StepEnds.{under, Declines};
 
 use crate::world::World;
 use ec_base::{ClerkId, Counter, Duplicate, NoMemory, OpNo, next};
+use ec_clerk::running::running::{self, Begun};
+use ec_clerk::running::{StepFault, add_copy, is_answered};
 use ec_history::Shown;
 use ec_plain::Call;
 use ec_protocol::Out;
-use ec_running::running::{self, Begun};
-use ec_running::{StepFault, add_copy, is_answered};
 use std::alloc::Global;
 
 impl World {

@@ -11,11 +11,11 @@ ghost use Rattle.ec_store.specs.declared.fault.StoreFault.TheVariants as store_f
 ghost use Rattle.ec_marking.specs.KeptRuns.{LeavesEither};
 ghost use Rattle.ec_world.specs.Cutting.{TakesBack, left_of};
 ghost use Rattle.ec_marking.specs.Signs.{sign_of};
-ghost use Rattle.ec_running.specs.declared.fault.StepFault.TheVariants as fault;
+ghost use Rattle.ec_clerk.specs.declared.running.fault.StepFault.TheVariants as fault;
 
+use ec_clerk::running::StepFault;
 use ec_disk::{Choice, CrashDisk, Disk, DiskAnswer};
 use ec_marking::Sign;
-use ec_running::StepFault;
 use ec_store::{Store, StoreFault};
 use std::alloc::Global;
 

@@ -2,9 +2,9 @@
 ghost use Rattle.std.specs.Prelude.{◌≡◌, ◌++◌, ◌∷◌, [], IfOk, OnOk};
 ghost use Rattle.ec_history.specs.Placing.{watch};
 
+use ec_base::trace::Trace;
 use ec_base::{ClerkId, LAST_COUNTER, NoMemory};
 use ec_history::{Shown, Watch};
-use ec_trace::Trace;
 use ec_watch::{none_watched, note, starts_are_few, watch_of};
 use std::alloc::Global;
 use std::marker::Model;

@@ -7,7 +7,7 @@ ghost use Rattle.ec_world.specs.StepEnds.{under, Declines};
 
 use crate::world::World;
 use ec_base::{ClerkId, Duplicate, NoMemory};
-use ec_running::{StepFault, running};
+use ec_clerk::running::{StepFault, running};
 use std::alloc::Global;
 
 impl World {

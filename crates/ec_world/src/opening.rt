@@ -20,15 +20,15 @@ ghost use Rattle.ec_world.specs.Worlds.{view_of, IsInStep};
 
 use crate::lines::Lines;
 use crate::world::World;
+use ec_base::trace::Trace;
 use ec_base::{CLERK_COUNT, ClerkId, NoMemory, ObjId, SortedMap};
 use ec_disk::{Choice, CrashDisk, DiskLen};
 use ec_durable::{Durable, Record};
 use ec_marking::{Came, keeping};
-use ec_pool::Pool;
+use ec_protocol::pool::Pool;
 use ec_protocol::{Served, WorldFault};
 use ec_server::Server;
 use ec_store::{Store, StoreFault};
-use ec_trace::Trace;
 use ec_volume::Volume;
 use std::alloc::Global;
 

@@ -6,20 +6,20 @@ ghost use Rattle.ec_history.specs.declared.shown.Shown.TheVariants as show;
 ghost use Rattle.ec_protocol.specs.World as machine;
 ghost use Rattle.ec_server.specs.Servers.{StandsOn};
 ghost use Rattle.ec_store.specs.Store as stores;
-ghost use Rattle.ec_running.specs.Faults.{of_step};
+ghost use Rattle.ec_clerk.specs.OfRunning.Faults.{of_step};
 ghost use Rattle.ec_marking.specs.Keeping.{HasStoppedIn, IfDone, IsMarked};
 ghost use Rattle.ec_world.specs.Serving.{CameUp, Finishes, ArmsBehind, Breaks, FailsSince, serves};
 ghost use Rattle.ec_world.specs.Worlds.{view_of, IsInStep, KeepsServer};
 ghost use Rattle.ec_world.specs.StepEnds.{under, Fated, RefusesEvent, IsLeft};
-ghost use Rattle.ec_running.specs.declared.fault.StepFault.TheVariants as fault;
+ghost use Rattle.ec_clerk.specs.declared.running.fault.StepFault.TheVariants as fault;
 
 use crate::world::World;
 use ec_base::NoMemory;
+use ec_clerk::running::StepFault;
 use ec_disk::CrashDisk;
 use ec_history::Shown;
 use ec_marking::{Came, keeping};
 use ec_protocol::Served;
-use ec_running::StepFault;
 use ec_server::Server;
 use std::alloc::Global;
 

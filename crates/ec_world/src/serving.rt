@@ -8,22 +8,22 @@ ghost use Rattle.ec_protocol.specs.Server.{Serving};
 ghost use Rattle.ec_protocol.specs.World as machine;
 ghost use Rattle.ec_protocol.specs.declared.server.Server.{Server as State};
 ghost use Rattle.ec_store.specs.Store as stores;
-ghost use Rattle.ec_running.specs.Faults.{of_step};
+ghost use Rattle.ec_clerk.specs.OfRunning.Faults.{of_step};
 ghost use Rattle.ec_marking.specs.Marks.{gone};
 ghost use Rattle.ec_world.specs.Worlds.{view_of, IsInStep, KeepsServer, ServerStands};
 ghost use Rattle.ec_marking.specs.Keeping.{HasStoppedIn};
 ghost use Rattle.ec_world.specs.Serving.{CameTo, Finishes, ArmsBehind, Breaks, FailsSince, serves};
 ghost use Rattle.ec_world.specs.StepEnds.{under, Fated, RefusesEvent, IsLeft};
 ghost use Rattle.ec_world.specs.Sending.{IsFor};
-ghost use Rattle.ec_running.specs.declared.fault.StepFault.TheVariants as fault;
+ghost use Rattle.ec_clerk.specs.declared.running.fault.StepFault.TheVariants as fault;
 
 use crate::world::World;
 use ec_base::{ClerkId, NoMemory};
+use ec_clerk::running::StepFault;
 use ec_disk::CrashDisk;
 use ec_history::Shown;
 use ec_marking::{Came, Mark, keeping};
 use ec_protocol::Served;
-use ec_running::StepFault;
 use std::alloc::Global;
 
 impl World {

@@ -2,17 +2,17 @@
 ghost use Rattle.std.specs.Prelude.{◌≡◌, ℕ, List, [], Err, IsOk, IfOk, IfErr, IsErrAnd, OnOk};
 ghost use Rattle.ec_disk.specs.Effects.{Counted};
 ghost use Rattle.ec_protocol.specs.World as machine;
-ghost use Rattle.ec_running.specs.Faults.{of_step};
+ghost use Rattle.ec_clerk.specs.OfRunning.Faults.{of_step};
 ghost use Rattle.ec_world.specs.Worlds.{view_of, IsInStep, KeepsServer};
 ghost use Rattle.ec_world.specs.StepEnds.{under, Fated, RefusesEvent, IsLeft, behind_arm, CountsOf};
-ghost use Rattle.ec_running.specs.declared.fault.StepFault.TheVariants as fault;
+ghost use Rattle.ec_clerk.specs.declared.running.fault.StepFault.TheVariants as fault;
 
 use crate::world::World;
+use ec_clerk::running::StepFault;
 use ec_disk::CrashDisk;
 use ec_history::Shown;
-use ec_pool::is_for_server;
+use ec_protocol::pool::is_for_server;
 use ec_protocol::{Event, WorldFault};
-use ec_running::StepFault;
 use std::alloc::Global;
 use std::mem;
 

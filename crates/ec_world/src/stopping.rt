@@ -14,16 +14,16 @@ ghost use Rattle.ec_world.specs.Serving.{Breaks, left_in, stopped_in, with_durab
 ghost use Rattle.ec_marking.specs.Signs.{sign_of};
 ghost use Rattle.ec_world.specs.StepEnds.{under};
 ghost use Rattle.ec_world.specs.Worlds.{view_of, IsInStep};
-ghost use Rattle.ec_running.specs.declared.fault.StepFault.TheVariants as fault;
+ghost use Rattle.ec_clerk.specs.declared.running.fault.StepFault.TheVariants as fault;
 
 use crate::cutting::cut_power;
 use crate::world::World;
+use ec_base::trace::Trace;
+use ec_clerk::running::StepFault;
 use ec_disk::CrashDisk;
 use ec_durable::Record;
 use ec_history::Shown;
 use ec_marking::{Mark, Sign};
-use ec_running::StepFault;
-use ec_trace::Trace;
 use std::alloc::Global;
 
 impl World {

@@ -13,17 +13,17 @@ ghost use Rattle.ec_world.specs.StepEnds.{Unopened, FateOf, IsTold, RefusesEvent
 
 use crate::lines::Lines;
 use crate::opening::{store_on, world_on};
+use ec_base::trace::Trace;
 use ec_base::{ClerkId, NoMemory, SortedMap};
 use ec_clerk::Clerk;
 use ec_disk::{Choice, CrashDisk};
 use ec_durable::Record;
 use ec_history::Shown;
 use ec_plain::Call;
-use ec_pool::Pool;
+use ec_protocol::pool::Pool;
 use ec_protocol::{Event, Noted, WorldFault};
 use ec_server::Server;
 use ec_store::Store;
-use ec_trace::Trace;
 use ec_wire::MsgKind;
 use std::alloc::Global;
 

@@ -4,7 +4,7 @@ ghost use Rattle.ec_disk.specs.Turns.{counts_of};
 
 use ec_disk::FileDisk;
 use ec_echo::Status;
-use ec_layout::Head;
+use ec_journal::layout::Head;
 use std::fs::{File, Metadata, OpenFile, TryLockError};
 use std::io;
 use std::os::unix::fs::FileExt;

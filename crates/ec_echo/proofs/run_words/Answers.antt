@@ -1,11 +1,11 @@
 use Rattle.std.proofs.Common.{refl, inl, inr}
 use Rattle.ec_echo.specs.declared.command.Command.TheVariants.{Drill, Check, Make, Soak, Serve, Mount}
 use Rattle.ec_echo.specs.declared.status.Status.TheVariants as status
-use Rattle.ec_promise.proofs.Completes.{drills-complete}
-use Rattle.ec_promise.proofs.Lawful.{drills-lawful}
-use Rattle.ec_promise.proofs.Rooms.{drills-told}
-use Rattle.ec_promise.proofs.Spent.{drills-spent}
-use Rattle.ec_node_laws.proofs.Claims.{claims-first}
+use Rattle.ec_drill.proofs.OfPromise.Completes.{drills-complete}
+use Rattle.ec_drill.proofs.OfPromise.Lawful.{drills-lawful}
+use Rattle.ec_drill.proofs.OfPromise.Rooms.{drills-told}
+use Rattle.ec_drill.proofs.OfPromise.Spent.{drills-spent}
+use Rattle.ec_machine_laws.proofs.OfNodeLaws.Claims.{claims-first}
 use Rattle.ec_echo.proofs.Greeting.{mounts-greet}
 use Rattle.ec_echo.proofs.Soaks.{soaked_over}
 use Rattle.ec_echo.proofs.Starts.{starts_later}

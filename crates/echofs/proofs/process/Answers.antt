@@ -1,8 +1,8 @@
 use Rattle.std.proofs.Common.{◌≡◌, ℕ, sym, subst, ◌∙◌, map}
 use Rattle.std.specs.String.{string_bytes}
-use Rattle.ec_named.specs.Forms.{Asks}
-use Rattle.ec_named.specs.Seen.{stream, store}
-use Rattle.ec_named.proofs.Promised.{asked, say-all}
+use Rattle.ec_echo.specs.OfNamed.Forms.{Asks}
+use Rattle.ec_echo.specs.OfNamed.Seen.{stream, store}
+use Rattle.ec_echo.proofs.OfNamed.Promised.{asked, say-all}
 use Rattle.echofs.proofs.process.Goals as goal
 
 pub returns-clause-usage : goal.returns-clause-usage

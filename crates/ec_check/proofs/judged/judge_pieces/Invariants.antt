@@ -1,6 +1,6 @@
 use Rattle.std.proofs.Common.{length}
 use Rattle.ec_legal.specs.Tried.{IsTried}
-use Rattle.ec_transcript.specs.LinesRead.{IsReadTo}
+use Rattle.ec_legal.specs.OfTranscript.LinesRead.{IsReadTo}
 use Rattle.ec_check.proofs.judged.judge_pieces.Given as goal
 
 abbrev pub invariant-pieces : goal.invariant-pieces

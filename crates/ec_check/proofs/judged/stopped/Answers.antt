@@ -4,7 +4,7 @@ use Rattle.ec_legal.specs.Tried.{Stops}
 use Rattle.ec_legal.proofs.Tried.{stops-more}
 use Rattle.ec_check.specs.Verdicts.{IsVerdict}
 use Rattle.ec_check.specs.Judged.{IsJudged}
-use Rattle.ec_transcript.proofs.Halves.{if-ok}
+use Rattle.ec_legal.proofs.OfTranscript.Halves.{if-ok}
 use Rattle.ec_check.proofs.Pieces.{piece-fits, taken, taken-fault, behind-ss, read-all}
 use Rattle.ec_check.proofs.judged.stopped.Goals as goal
 use Rattle.ec_base.proofs.Results.{taken-ok}

@@ -1,6 +1,6 @@
 use Rattle.std.proofs.Common.{ap}
 use Rattle.ec_volume.specs.Update.{member}
-use Rattle.ec_tokens.specs.Tokens.{token}
+use Rattle.ec_sessions.specs.OfTokens.Tokens.{token}
 use Rattle.ec_coherence.specs.System.{eff_from}
 use Rattle.ec_coherence.proofs.FinishAgrees.{finish-agrees}
 use Rattle.ec_coherence.proofs.FlushAgrees.{flush-agrees}

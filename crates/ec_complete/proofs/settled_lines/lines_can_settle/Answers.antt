@@ -1,5 +1,5 @@
 use Rattle.ec_machine_laws.proofs.Sent.{deliveries-count}
-use Rattle.ec_agreed_lines.proofs.Worlds as clerks
+use Rattle.ec_complete.proofs.OfAgreedLines.Worlds as clerks
 use Rattle.ec_complete.proofs.Taking.{can-take-next}
 use Rattle.ec_complete.proofs.Delivering.{lines-stay-on}
 use Rattle.ec_complete.proofs.Below.{counters-spare, next-spare}

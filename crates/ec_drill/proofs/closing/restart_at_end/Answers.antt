@@ -2,7 +2,7 @@ use Rattle.std.proofs.Common.{sym, subst, ap, List, Err}
 use Rattle.std.specs.Io.KnownBytes.{Appends}
 use Rattle.ec_disk.specs.Disk.{Counts}
 use Rattle.ec_history.specs.declared.shown.Shown.{Shown}
-use Rattle.ec_text.specs.Lines.{text_of}
+use Rattle.ec_words.specs.OfText.Lines.{text_of}
 use Rattle.ec_protocol.specs.declared.world.Event.TheVariants as event
 use Rattle.ec_world.specs.Worlds.{view_of, IsInStep}
 use Rattle.ec_world.specs.Laws.{in_step_rests, in_step_stands}

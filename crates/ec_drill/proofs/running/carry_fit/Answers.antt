@@ -1,7 +1,7 @@
 use Rattle.std.proofs.Common.{sym, subst, ◌∙◌, List}
 use Rattle.std.specs.Io.KnownBytes.{Appends}
 use Rattle.ec_history.specs.declared.shown.Shown.{Shown}
-use Rattle.ec_text.specs.Lines.{text_of}
+use Rattle.ec_words.specs.OfText.Lines.{text_of}
 use Rattle.ec_drill.specs.ArmedSteps.{heard}
 use Rattle.ec_drill.specs.Steps.{CutLines}
 use Rattle.ec_world.specs.Worlds.{view_of}

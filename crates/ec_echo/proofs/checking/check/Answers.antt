@@ -1,7 +1,7 @@
 use Rattle.std.proofs.Common.{refl}
 use Rattle.ec_history.specs.declared.shown.Shown.TheVariants as shown
 use Rattle.ec_history.specs.declared.shown.LimitName.TheVariants as limit
-use Rattle.ec_text.specs.Lines.{shown_text}
+use Rattle.ec_words.specs.OfText.Lines.{shown_text}
 use Rattle.ec_echo.specs.Check.{illegal_text}
 use Rattle.ec_echo.specs.declared.status.Status.TheVariants as status
 use Rattle.ec_echo.proofs.Judging.{told, told-made}

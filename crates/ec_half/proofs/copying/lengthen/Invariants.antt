@@ -1,5 +1,5 @@
 use Rattle.std.proofs.Common.{◌≡◌, ◌≤◌, ◌-◌, length}
-use Rattle.ec_slots.specs.Contents.{filled}
+use Rattle.ec_half.specs.OfSlots.Contents.{filled}
 use Rattle.ec_half.specs.Contents.{content_behind, HasHeader}
 use Rattle.ec_half.proofs.copying.lengthen.Given as goal
 

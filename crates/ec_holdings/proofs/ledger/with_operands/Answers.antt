@@ -1,8 +1,8 @@
 use Rattle.std.proofs.Common.{◌≡◌, ◌∷◌, ◌+◌, ◌∙◌, ℕ, List, Option, ap, sym, subst, drop}
 use Rattle.std.specs.Prelude.{MatchOption}
 use Rattle.ec_volume.specs.declared.update.Update.{Update}
-use Rattle.ec_chains.specs.SlotLaws.{live-next}
-use Rattle.ec_chains.specs.Slots.{live, with_one}
+use Rattle.ec_log.specs.OfChains.SlotLaws.{live-next}
+use Rattle.ec_log.specs.OfChains.Slots.{live, with_one}
 use Rattle.ec_holdings.proofs.Lost.{one_owed, none_owed, owed_more}
 use Rattle.ec_holdings.proofs.Owing.{is_next, left_behind, is_other, left_same}
 use Rattle.ec_holdings.proofs.ledger.with_operands.Goals as goal

@@ -1,6 +1,6 @@
 use Rattle.std.proofs.Common.{◌≡◌, ◌++◌, drop}
 use Rattle.ec_base.specs.Tables.{keys}
-use Rattle.ec_chains.specs.Slots.{live}
+use Rattle.ec_log.specs.OfChains.Slots.{live}
 use Rattle.ec_protocol.specs.Clerk as clerk
 use Rattle.ec_holdings.specs.Owing.{lost_of}
 use Rattle.ec_holdings.proofs.ledger.with_operands.Given as goal

@@ -1,5 +1,5 @@
 use Rattle.std.proofs.Common.{◌≡◌, ◌++◌, drop}
-use Rattle.ec_chains.specs.Slots.{live}
+use Rattle.ec_log.specs.OfChains.Slots.{live}
 use Rattle.ec_protocol.specs.Clerk as clerk
 use Rattle.ec_holdings.proofs.operands.on_objects.Given as goal
 

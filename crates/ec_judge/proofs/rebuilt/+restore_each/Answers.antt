@@ -1,5 +1,5 @@
 use Rattle.std.proofs.lemmas.Result.{on_ok_weaker}
-use Rattle.ec_needed.proofs.Maps.{noted_first}
+use Rattle.ec_order.proofs.OfNeeded.Maps.{noted_first}
 use Rattle.ec_judge.specs.Carried.{is_noted}
 use Rattle.ec_judge.proofs.Restored.{one-restored, one-noted}
 use Rattle.ec_judge.proofs.rebuilt.+restore_each.Goals as goal

@@ -1,7 +1,7 @@
 use Rattle.std.proofs.Common.{◌≡◌, sym, ap, ◌∙◌, ℕ, Bool, not, cond}
 use Rattle.std.specs.List.{filter}
 use Rattle.ec_volume.specs.Update.{member, operands, effect, first_unfit}
-use Rattle.ec_overlay.specs.Shown.{shown}
+use Rattle.ec_pending.specs.OfOverlay.Shown.{shown}
 use Rattle.ec_history.specs.History.{Op, is_one_of}
 use Rattle.ec_judge.specs.Carried.{is_noted}
 use Rattle.ec_judge.proofs.Loops.{sound-at}

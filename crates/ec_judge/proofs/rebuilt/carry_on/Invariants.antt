@@ -1,5 +1,5 @@
 use Rattle.std.proofs.Common.{◌≡◌, ℕ, T, not}
-use Rattle.ec_overlay.specs.Shown.{shown, has_own}
+use Rattle.ec_pending.specs.OfOverlay.Shown.{shown, has_own}
 use Rattle.ec_history.specs.History.{is_one_of}
 use Rattle.ec_judge.specs.Carried.{is_noted, IsFrontAt, IsWholeBeside}
 use Rattle.ec_judge.proofs.rebuilt.carry_on.Given as goal

@@ -3,7 +3,7 @@ use Rattle.std.specs.List.{filter}
 use Rattle.ec_history.specs.History.{meets}
 use Rattle.ec_judge.specs.Carried.{count_next}
 use Rattle.ec_pending.specs.Pending.{issues_of, rest, is_asked}
-use Rattle.ec_owes.specs.Rules.{IsNumbered}
+use Rattle.ec_pending.specs.OfOwes.Rules.{IsNumbered}
 use Rattle.ec_judge.specs.declared.carried.Start.{Start}
 use Rattle.ec_judge.proofs.Steps.{same-at, on-ok-all}
 use Rattle.ec_judge.proofs.Places.{same-places}

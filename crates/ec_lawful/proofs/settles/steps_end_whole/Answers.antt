@@ -3,8 +3,8 @@ use Rattle.ec_coherence.specs.Steps.{sends}
 use Rattle.ec_coherence.proofs.Lists.{each-more}
 use Rattle.ec_lawful.proofs.Ending.{steps-end}
 use Rattle.ec_lawful.proofs.Resending.{resends-keep}
-use Rattle.ec_clerk_steps.specs.Fulls.{IsFullAt}
-use Rattle.ec_clerk_steps.proofs.Sent.{own-full, resend-own}
+use Rattle.ec_lawful.specs.OfClerkSteps.Fulls.{IsFullAt}
+use Rattle.ec_lawful.proofs.OfClerkSteps.Sent.{own-full, resend-own}
 use Rattle.ec_lawful.proofs.settles.steps_end_whole.Goals as goal
 
 pub returns-clause-end : goal.returns-clause-end

@@ -1,7 +1,7 @@
 use Rattle.std.proofs.Common.{ap, ◌∙◌}
 use Rattle.std.specs.Prelude.{filter}
-use Rattle.ec_chains.specs.Held.{first_number}
-use Rattle.ec_chains.specs.Walk.{passes}
+use Rattle.ec_log.specs.OfChains.Held.{first_number}
+use Rattle.ec_log.specs.OfChains.Walk.{passes}
 use Rattle.ec_log.proofs.Logs.{asked_first}
 use Rattle.ec_log.proofs.asked.first_asked.Goals as goal
 

@@ -1,7 +1,7 @@
 use Rattle.std.proofs.Common.{subst}
 use Rattle.std.proofs.lemmas.Result.{IfOk-weaker}
 use Rattle.ec_sessions.specs.Limits.{max_batch_ops}
-use Rattle.ec_chains.specs.Front.{IsFront}
+use Rattle.ec_log.specs.OfChains.Front.{IsFront}
 use Rattle.ec_log.proofs.Fronts.{front-asked}
 use Rattle.ec_log.proofs.asked.front_of.Goals as goal
 

@@ -4,7 +4,7 @@ use Rattle.std.specs.List.{list_any}
 use Rattle.ec_base.specs.Tables.{keys}
 use Rattle.ec_volume.specs.Update.{member}
 use Rattle.ec_sessions.specs.Windows.{has}
-use Rattle.ec_chains.specs.Slots.{live}
+use Rattle.ec_log.specs.OfChains.Slots.{live}
 use Rattle.ec_log.specs.Chosen.{lost_in}
 use Rattle.ec_log.proofs.Logs.{place_more}
 use Rattle.ec_log.proofs.choice.lost_of.Goals as goal

@@ -1,6 +1,6 @@
 use Rattle.std.proofs.Common.{◌≡◌, ◌++◌, drop}
 use Rattle.ec_base.specs.Tables.{keys}
-use Rattle.ec_chains.specs.Slots.{live}
+use Rattle.ec_log.specs.OfChains.Slots.{live}
 use Rattle.ec_log.specs.Chosen.{lost_in}
 use Rattle.ec_log.proofs.choice.lost_of.Given as goal
 

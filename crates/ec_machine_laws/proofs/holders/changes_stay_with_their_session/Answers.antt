@@ -1,5 +1,5 @@
 use Rattle.ec_machine_laws.proofs.Rows.{granted-others, lowered-others, not-own, no-conflict}
-use Rattle.ec_tokens.specs.Tokens.{is_conflict}
+use Rattle.ec_sessions.specs.OfTokens.Tokens.{is_conflict}
 use Rattle.std.proofs.Common.{not, ◌==◌}
 use Rattle.ec_machine_laws.proofs.holders.changes_stay_with_their_session.Goals as goal
 

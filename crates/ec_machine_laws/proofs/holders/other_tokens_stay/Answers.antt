@@ -1,4 +1,4 @@
-use Rattle.ec_tokens.specs.Laws.{token-granted}
+use Rattle.ec_sessions.specs.OfTokens.Laws.{token-granted}
 use Rattle.ec_machine_laws.proofs.Given.{lowered-tokens, ids-tokens, ids-sound}
 use Rattle.ec_machine_laws.proofs.holders.other_tokens_stay.Goals as goal
 

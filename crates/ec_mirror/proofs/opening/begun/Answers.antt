@@ -1,7 +1,7 @@
 use Rattle.std.proofs.Common.{arith, ◌∙◌, ap, sym, subst}
 use Rattle.ec_half.specs.Contents.{HasHeader}
 use Rattle.ec_half.specs.Headers.{IsFoundOf}
-use Rattle.ec_slots.specs.Contents.{content}
+use Rattle.ec_half.specs.OfSlots.Contents.{content}
 use Rattle.ec_mirror.proofs.Joins.{number-empty, number-half}
 use Rattle.ec_mirror.proofs.opening.begun.Goals as goal
 

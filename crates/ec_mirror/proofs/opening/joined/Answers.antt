@@ -1,6 +1,6 @@
 use Rattle.std.proofs.Common.{◌∙◌, length, sym}
 use Rattle.ec_half.specs.Contents.{content_behind}
-use Rattle.ec_slots.specs.Contents.{filled}
+use Rattle.ec_half.specs.OfSlots.Contents.{filled}
 use Rattle.ec_mirror.proofs.Joins.{joined-first, joined-second, lead-first, lead-second, joined-both, first-alone, second-alone}
 use Rattle.ec_mirror.proofs.opening.joined.Goals as goal
 

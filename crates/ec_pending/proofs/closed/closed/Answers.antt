@@ -1,7 +1,7 @@
 use Rattle.std.proofs.Common.{◌∙◌, ap, sym, arith, ℕ, Option}
 use Rattle.std.specs.Prelude.{◌||◌}
 use Rattle.ec_volume.specs.declared.update.Update.{Update}
-use Rattle.ec_needed.specs.Needed.{is_needed}
+use Rattle.ec_order.specs.OfNeeded.Needed.{is_needed}
 use Rattle.ec_pending.specs.Pending.{is_asked}
 use Rattle.ec_pending.proofs.Holding.{placed-at}
 use Rattle.ec_pending.proofs.Walks.{walk-begins, walk-takes, walk-passes}

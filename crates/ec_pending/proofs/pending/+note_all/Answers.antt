@@ -1,7 +1,7 @@
 use Rattle.std.proofs.Common.{T, subst}
 use Rattle.std.proofs.lemmas.Result.{on_ok_weaker}
 use Rattle.ec_volume.specs.Update.{member}
-use Rattle.ec_chains.proofs.Fronts.{noted-old, noted-new}
+use Rattle.ec_log.proofs.OfChains.Fronts.{noted-old, noted-new}
 use Rattle.ec_pending.proofs.pending.+note_all.Goals as goal
 use Rattle.ec_base.proofs.Lists.{split_first}
 

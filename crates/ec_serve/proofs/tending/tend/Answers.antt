@@ -1,10 +1,10 @@
 use Rattle.std.proofs.Common.{false, length, refl, sym, ap, subst}
 use Rattle.ec_link.specs.Spawns.{faults_of}
 use Rattle.ec_lock.specs.PassViews.{front, numbers}
-use Rattle.ec_threads.specs.ServingMoments.{back_of, moment}
+use Rattle.ec_serve.specs.OfThreads.ServingMoments.{back_of, moment}
 use Rattle.ec_serve.specs.Serve.{Outer}
 use Rattle.ec_serve.specs.ServerRuns.{Tends, tended_of}
-use Rattle.ec_threads.proofs.Goes.{no_fault}
+use Rattle.ec_serve.proofs.OfThreads.Goes.{no_fault}
 use Rattle.ec_serve.proofs.Tends.{Tended, outer, tends, tends_before, later_by}
 use Rattle.ec_serve.proofs.tending.tend.Goals as goal
 

@@ -3,7 +3,7 @@ use Rattle.std.specs.Ordering.{nat_cmp}
 use Rattle.std.specs.FinMap.{is_sorted}
 use Rattle.ec_volume.specs.declared.image.Image.{Image}
 use Rattle.ec_sessions.specs.SlotChecks.{AreSlots}
-use Rattle.ec_table.specs.Codes.{numbers_in}
+use Rattle.ec_stands.specs.OfTable.Codes.{numbers_in}
 use Rattle.ec_store.specs.Places.{ArePlaces}
 use Rattle.ec_store.proofs.Assembling.{rising, images_rise, slots_are, places_are, formed_state}
 use Rattle.ec_store.proofs.opening.assemble.Goals as goal

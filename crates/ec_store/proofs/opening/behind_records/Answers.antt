@@ -1,6 +1,6 @@
 use Rattle.std.proofs.Common.{rules, ◌+◌, ◌<◌, ℕ, List, length, ap, sym, subst, ◌∙◌}
 use Rattle.ec_journal.specs.Records.{records}
-use Rattle.ec_table.specs.Codes.{numbers_in}
+use Rattle.ec_stands.specs.OfTable.Codes.{numbers_in}
 use Rattle.ec_stands.specs.Stands.{IsBadAt, StepsTo}
 use Rattle.ec_store.specs.Places.{ArePlaces}
 use Rattle.std.specs.Prelude.{IsErrOf}

@@ -1,7 +1,7 @@
 use Rattle.std.proofs.Common.{rules, ◌+◌, ◌≤◌, ℕ, List, length, sym, subst}
 use Rattle.std.specs.Prelude.{IsErrOf}
 use Rattle.ec_journal.specs.Journal.{IsFound}
-use Rattle.ec_layout.specs.Places.{journal_at}
+use Rattle.ec_journal.specs.OfLayout.Places.{journal_at}
 use Rattle.ec_store.specs.declared.fault.StoreFault.TheVariants.{BadDisk}
 use Rattle.ec_store.proofs.Resting.{rests_then}
 use Rattle.ec_store.proofs.ReadBack.{journal_inside}

@@ -2,9 +2,9 @@ use Rattle.std.proofs.Common.{rules, ℕ, List, length, ap, sym, subst, ◌∙�
 use Rattle.std.specs.Prelude.{IsErrOf}
 use Rattle.ec_disk.specs.Disk.{part}
 use Rattle.ec_codes.specs.Spelling.{StandsAt}
-use Rattle.ec_table.specs.Codes.{table_code, ids_in}
-use Rattle.ec_layout.specs.Places.{table_at}
-use Rattle.ec_layout.specs.declared.side.Side.{Side}
+use Rattle.ec_stands.specs.OfTable.Codes.{table_code, ids_in}
+use Rattle.ec_journal.specs.OfLayout.Places.{table_at}
+use Rattle.ec_journal.specs.declared.layout.side.Side.{Side}
 use Rattle.ec_stands.specs.Stands.{IsBadAt, HasBadImage}
 use Rattle.ec_stands.specs.Checkpoints.{AreSpelled}
 use Rattle.ec_store.specs.declared.fault.StoreFault.TheVariants.{BadDisk}

@@ -4,8 +4,8 @@ use Rattle.std.specs.Ordering.{nat_cmp}
 use Rattle.std.specs.FinMap.{is_sorted}
 use Rattle.ec_codes.specs.Formats.{rows_fit}
 use Rattle.ec_sessions.specs.Slots.{all_unspent}
-use Rattle.ec_table.specs.Codes.{place_after}
-use Rattle.ec_layout.specs.Free.{free_below}
+use Rattle.ec_stands.specs.OfTable.Codes.{place_after}
+use Rattle.ec_journal.specs.OfLayout.Free.{free_below}
 use Rattle.ec_store.specs.Places.{placed}
 use Rattle.ec_store.proofs.Members.{all_of_members}
 use Rattle.ec_store.proofs.Placing.{placed_sorted}

@@ -1,6 +1,6 @@
 use Rattle.std.proofs.Common.{◌∙◌, List, ℕ, sym, subst}
 use Rattle.std.specs.Prelude.{IfOk}
-use Rattle.ec_table.specs.Codes.{numbers_in}
+use Rattle.ec_stands.specs.OfTable.Codes.{numbers_in}
 use Rattle.ec_store.specs.Places.{ArePlaces}
 use Rattle.ec_store.specs.Plan.{IsPlan}
 use Rattle.ec_store.proofs.plan.lay_out_all.Goals as goal

@@ -6,7 +6,7 @@ use Rattle.std.proofs.Math.Logic.{∥∥₁_elim}
 use Rattle.std.proofs.lemmas.List.{take_all}
 use Rattle.ec_base.specs.Tables.{at}
 use Rattle.ec_volume.specs.declared.image.Image.{Image}
-use Rattle.ec_layout.specs.Pieces.{pieces_of}
+use Rattle.ec_journal.specs.OfLayout.Pieces.{pieces_of}
 use Rattle.ec_store.specs.Places.{IsPlaced}
 use Rattle.ec_store.specs.Placing.{free_now}
 use Rattle.ec_store.specs.declared.plan.Placing.{Placing}

@@ -1,6 +1,6 @@
 use Rattle.std.proofs.Common.{◌≡◌, ◌≤◌, ◌++◌, take, drop}
 use Rattle.std.specs.List.{All}
-use Rattle.ec_layout.specs.Pieces.{pieces_of}
+use Rattle.ec_journal.specs.OfLayout.Pieces.{pieces_of}
 use Rattle.ec_store.specs.Places.{IsPlaced, placed, pieces}
 use Rattle.ec_store.specs.Placing.{free_now}
 use Rattle.ec_store.proofs.plan.place_all.Given as goal

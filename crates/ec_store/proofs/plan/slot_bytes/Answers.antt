@@ -1,5 +1,5 @@
 use Rattle.std.proofs.Common.{rules, ◌≡◌, true}
-use Rattle.ec_table.specs.declared.table.Version.TheVariants.{Two}
+use Rattle.ec_stands.specs.declared.table.table.Version.TheVariants.{Two}
 use Rattle.ec_stands.specs.Stands.{slot_code}
 use Rattle.ec_store.proofs.Placing.{bytes_short}
 use Rattle.ec_store.proofs.plan.slot_bytes.Goals as goal

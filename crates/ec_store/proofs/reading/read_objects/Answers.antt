@@ -2,7 +2,7 @@ use Rattle.std.proofs.Common.{rules, arith, ◌∙◌, ℕ, List, ap, subst}
 use Rattle.std.proofs.lemmas.List.{take_all}
 use Rattle.std.specs.Prelude.{IsErrOf}
 use Rattle.ec_store.specs.declared.fault.StoreFault.TheVariants.{BadDisk}
-use Rattle.ec_table.specs.Codes.{ids_in}
+use Rattle.ec_stands.specs.OfTable.Codes.{ids_in}
 use Rattle.ec_stands.specs.Stands.{IsBadImage}
 use Rattle.ec_stands.specs.Checkpoints.{AreSpelled, IsSpelled}
 use Rattle.ec_store.proofs.Resting.{rests_then}

@@ -3,7 +3,7 @@ use Rattle.std.specs.List.{list_all}
 use Rattle.ec_base.specs.Tables.{keys}
 use Rattle.ec_codes.specs.SoundImages.{is_sound_image}
 use Rattle.ec_disk.specs.Effects.{Rests, Counted}
-use Rattle.ec_table.specs.Codes.{ids_in}
+use Rattle.ec_stands.specs.OfTable.Codes.{ids_in}
 use Rattle.ec_stands.specs.Checkpoints.{AreSpelled}
 use Rattle.ec_store.proofs.reading.read_objects.Given as goal
 

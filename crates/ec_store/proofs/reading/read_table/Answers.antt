@@ -1,7 +1,7 @@
 use Rattle.std.proofs.Common.{ℕ, List, ap, subst, ◌∙◌}
 use Rattle.ec_disk.specs.Disk.{part}
 use Rattle.ec_codes.specs.Spelling.{StandsAt}
-use Rattle.ec_table.specs.Codes.{table_code}
+use Rattle.ec_stands.specs.OfTable.Codes.{table_code}
 use Rattle.ec_store.proofs.reading.read_table.Goals as goal
 
 pub returns-in-Ok-clause-stands : goal.returns-in-Ok-clause-stands

@@ -1,6 +1,6 @@
 use Rattle.std.proofs.Common.{ap, ◌∙◌}
-use Rattle.ec_chains.specs.Slots.{live}
-use Rattle.ec_report.specs.Report as report
+use Rattle.ec_log.specs.OfChains.Slots.{live}
+use Rattle.ec_cache.specs.OfReport.Report as report
 use Rattle.ec_holdings.proofs.Owing.{lost_are, lost_are_some, lost_come_behind, lost_owed}
 use Rattle.ec_holdings.proofs.ledger.Ledger.lose.Goals as goal
 

@@ -1,9 +1,9 @@
 use Rattle.std.proofs.Common.{refl, ◌++◌, sym, ap, subst, ◌∙◌, not, cond, Some}
 use Rattle.ec_volume.specs.Update.{member}
-use Rattle.ec_overlay.specs.Shown.{shown}
+use Rattle.ec_pending.specs.OfOverlay.Shown.{shown}
 use Rattle.std.specs.List.{filter}
 use Rattle.ec_history.specs.History.{meets}
-use Rattle.ec_owes.specs.Rules.{IsNumbered, KeepsRules, BreaksRule, due_of}
+use Rattle.ec_pending.specs.OfOwes.Rules.{IsNumbered, KeepsRules, BreaksRule, due_of}
 use Rattle.ec_judge.specs.Asks.{asked_by_call}
 use Rattle.ec_judge.specs.declared.carried.Start.{Start}
 use Rattle.ec_judge.specs.Carried.{touches_in, is_start, touched_next, count_next}

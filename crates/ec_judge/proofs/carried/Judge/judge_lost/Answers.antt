@@ -1,7 +1,7 @@
 use Rattle.std.proofs.Common.{◌≡◌, ◌<◌, length, refl, ◌++◌, ap, sym, subst, ◌∙◌, not}
 use Rattle.std.specs.List.{filter}
 use Rattle.ec_volume.specs.Volume.{images, after, Fits, formatted}
-use Rattle.ec_overlay.specs.Shown.{shown}
+use Rattle.ec_pending.specs.OfOverlay.Shown.{shown}
 use Rattle.ec_history.specs.History.{updates, is_one_of, pairs_of}
 use Rattle.ec_judge.specs.Carried.{touches_in, ops_of, is_among, IsFirm, AreLaid, is_start, pending_of, KeepsMarks, BreaksMarks}
 use Rattle.ec_pending.specs.Pending.{numbers_in}

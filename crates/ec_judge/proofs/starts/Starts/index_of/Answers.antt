@@ -1,6 +1,6 @@
 use Rattle.std.proofs.Common.{◌++◌, ◌∷◌, [], refl, sym, ap, subst, ◌∙◌, ℕ, List, length}
 use Rattle.std.specs.List.{find, position_or_len}
-use Rattle.ec_numbers.specs.Starts.{indexed}
+use Rattle.ec_order.specs.OfNumbers.Starts.{indexed}
 use Rattle.ec_pending.specs.declared.issue.Issue.{Issue}
 use Rattle.ec_judge.specs.declared.carried.Start.{Start}
 use Rattle.ec_judge.specs.Carried.{is_start, count_of, owed_of, pending_of}

@@ -1,7 +1,7 @@
 use Rattle.std.proofs.Common.{sym, subst}
 use Rattle.std.specs.Prelude.{slice_index_or}
-use Rattle.ec_numbers.specs.Starts.{indexed}
-use Rattle.ec_owes.specs.Rules.{IsNumbered}
+use Rattle.ec_order.specs.OfNumbers.Starts.{indexed}
+use Rattle.ec_pending.specs.OfOwes.Rules.{IsNumbered}
 use Rattle.ec_judge.proofs.Places.{index-same}
 use Rattle.ec_judge.proofs.starts.Starts.note_at.Goals as goal
 

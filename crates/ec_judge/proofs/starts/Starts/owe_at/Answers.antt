@@ -1,4 +1,4 @@
-use Rattle.ec_numbers.specs.Starts.{indexed}
+use Rattle.ec_order.specs.OfNumbers.Starts.{indexed}
 use Rattle.ec_judge.proofs.Places.{index-same}
 use Rattle.ec_judge.proofs.starts.Starts.owe_at.Goals as goal
 

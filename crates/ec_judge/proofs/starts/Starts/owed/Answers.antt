@@ -1,7 +1,7 @@
 use Rattle.std.proofs.Common.{sym, ap, ◌∙◌}
 use Rattle.std.specs.List.{find}
 use Rattle.std.proofs.lemmas.Result.{IfOk-weaker}
-use Rattle.ec_numbers.specs.Starts.{indexed}
+use Rattle.ec_order.specs.OfNumbers.Starts.{indexed}
 use Rattle.ec_judge.specs.Carried.{is_start, owed_of}
 use Rattle.ec_judge.proofs.AllStarts.{found-at}
 use Rattle.ec_judge.proofs.Places.{index-found, index-none, find-none}

@@ -1,5 +1,5 @@
 use Rattle.std.proofs.Common.{◌≡◌, ◌<◌, ◌++◌, sym, subst, rules}
-use Rattle.ec_laws.specs.Bases.{AreAtLines}
+use Rattle.ec_history.specs.OfLaws.Bases.{AreAtLines}
 use Rattle.ec_history.specs.History.{Each}
 use Rattle.ec_legal.specs.Ahead.{placed_from}
 use Rattle.ec_legal.proofs.Judged.{block-lines, block-few, judges-now, entry-fault}

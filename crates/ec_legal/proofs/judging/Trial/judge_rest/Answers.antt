@@ -1,5 +1,5 @@
 use Rattle.std.proofs.Common.{◌≡◌, ◌≤◌, ◌<◌, ◌++◌, sym, ap, subst, ◌∙◌, arith, rules, length}
-use Rattle.ec_laws.specs.Bases.{AreAtLines}
+use Rattle.ec_history.specs.OfLaws.Bases.{AreAtLines}
 use Rattle.ec_history.specs.History.{Each}
 use Rattle.ec_history.specs.Legal.{IsLegal, from_formatted}
 use Rattle.ec_judge.specs.Fault.{IsEntryFault}

@@ -1,5 +1,5 @@
 use Rattle.std.proofs.Common.{◌+◌, arith, ap, ◌∙◌}
-use Rattle.ec_chains.specs.Held.{is_behind}
+use Rattle.ec_log.specs.OfChains.Held.{is_behind}
 use Rattle.ec_log.specs.LogOrder.{is_from}
 use Rattle.ec_log.proofs.Logs.{behind_more, from_more}
 use Rattle.ec_log.proofs.log.Log.issue.Goals as goal

@@ -1,7 +1,7 @@
 use Rattle.std.proofs.Common.{ap, ◌∙◌}
 use Rattle.std.proofs.lemmas.Result.{IfOk-weaker}
 use Rattle.ec_base.specs.Tables.{keys}
-use Rattle.ec_chains.specs.Slots.{live}
+use Rattle.ec_log.specs.OfChains.Slots.{live}
 use Rattle.ec_log.specs.Chosen.{lost_in}
 use Rattle.ec_log.specs.Log.{lost}
 use Rattle.ec_log.proofs.log.Log.lost.Goals as goal

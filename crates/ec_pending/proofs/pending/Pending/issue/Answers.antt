@@ -1,6 +1,6 @@
 use Rattle.std.proofs.Common.{◌≡◌, ◌<◌, ◌+◌, refl, sym, subst, true}
 use Rattle.std.proofs.lemmas.Result.{on_ok_weaker}
-use Rattle.ec_chains.specs.Held.{is_behind}
+use Rattle.ec_log.specs.OfChains.Held.{is_behind}
 use Rattle.ec_pending.specs.Pending.{AreEarly, AreRising, AreWithin}
 use Rattle.ec_pending.proofs.Holding.{behind-held, up_to-on, within-on, within-more, early-kept, early-issued, count-below, issued-up_to, issued-view}
 use Rattle.ec_pending.proofs.Rising.{rising-issued}

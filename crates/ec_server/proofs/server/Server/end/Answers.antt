@@ -1,11 +1,11 @@
 use Rattle.std.proofs.Common.{subst, sym}
 use Rattle.ec_server.specs.KeeperLaws.{answers_did, answers_hurt}
 use Rattle.ec_server.specs.CallLaws.{answers_ok, answers_err, answers_stand, answers_record, answers_once, answers_now, answers_none}
-use Rattle.ec_once.specs.SafeServers.{IsSafe}
-use Rattle.ec_once.proofs.Steps.{end-safe}
+use Rattle.ec_machine_laws.specs.OfAppliedOnce.SafeServers.{IsSafe}
+use Rattle.ec_machine_laws.proofs.OfAppliedOnce.Steps.{end-safe}
 use Rattle.ec_server.specs.Clerks.{HaveClerks}
 use Rattle.ec_server.specs.ServeLaws.{end_goes}
-use Rattle.ec_tokens.specs.SoundTokens.{AllApart}
+use Rattle.ec_sessions.specs.OfTokens.SoundTokens.{AllApart}
 use Rattle.ec_protocol.specs.declared.server.Server.{Server as State}
 use Rattle.ec_server.specs.Servers.{standing}
 use Rattle.ec_server.proofs.server.Server.end.Goals as goal

@@ -1,7 +1,7 @@
 use Rattle.std.proofs.Common.{subst}
 use Rattle.ec_protocol.specs.Server as machine
-use Rattle.ec_once.specs.SafeServers.{IsSafe}
-use Rattle.ec_once.proofs.Steps.{start-safe}
+use Rattle.ec_machine_laws.specs.OfAppliedOnce.SafeServers.{IsSafe}
+use Rattle.ec_machine_laws.proofs.OfAppliedOnce.Steps.{start-safe}
 use Rattle.ec_server.specs.CallLaws.{call_answered, record_by, once_by}
 use Rattle.ec_server.specs.Clerks.{HaveClerks}
 use Rattle.ec_server.specs.ServeLaws.{start_goes}

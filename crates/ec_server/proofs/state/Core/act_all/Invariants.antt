@@ -1,6 +1,6 @@
 use Rattle.std.proofs.Common.{◌≡◌, drop}
 use Rattle.ec_protocol.specs.Server as machine
-use Rattle.ec_recall.specs.Rounds.{GrantsGoIn}
+use Rattle.ec_sessions.specs.OfRecall.Rounds.{GrantsGoIn}
 use Rattle.ec_admission.specs.Clerks.{IsOpenIn}
 use Rattle.ec_server.specs.Clerks.{Each, session_of}
 use Rattle.ec_server.specs.Steps.{under}

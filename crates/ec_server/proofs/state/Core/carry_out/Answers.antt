@@ -1,7 +1,7 @@
 use Rattle.std.proofs.Common.{sym, subst, ℕ, List}
 use Rattle.std.specs.Prelude.{IsTrue}
 use Rattle.ec_base.specs.declared.ids.Hold.{Hold}
-use Rattle.ec_tokens.specs.SoundTokens.{is_claim}
+use Rattle.ec_sessions.specs.OfTokens.SoundTokens.{is_claim}
 use Rattle.ec_server.specs.CallLaws.{sound_ops, sound_claim, IsFromOne}
 use Rattle.ec_server.proofs.state.Core.carry_out.Goals as goal
 

@@ -1,5 +1,5 @@
 use Rattle.std.proofs.Common.{ap, sym, ◌∙◌, ◌∷◌}
-use Rattle.ec_tokens.specs.Tokens.{Tokens}
+use Rattle.ec_sessions.specs.OfTokens.Tokens.{Tokens}
 use Rattle.ec_protocol.specs.Server as machine
 use Rattle.ec_server.specs.Laws.{claims}
 use Rattle.ec_server.specs.Steps.{under}

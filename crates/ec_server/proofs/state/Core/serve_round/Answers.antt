@@ -1,5 +1,5 @@
 use Rattle.std.proofs.Common.{sym, subst, ◌∙◌, List}
-use Rattle.ec_recall.specs.declared.want.Action.{Action}
+use Rattle.ec_sessions.specs.declared.recall.want.Action.{Action}
 use Rattle.ec_admission.specs.Clerks.{IsOpenIn}
 use Rattle.ec_server.specs.Clerks.{Each, session_of}
 use Rattle.ec_server.specs.ServeLaws.{due_clerks}

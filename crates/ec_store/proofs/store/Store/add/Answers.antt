@@ -5,7 +5,7 @@ use Rattle.ec_volume.specs.Update.{member}
 use Rattle.ec_durable.specs.CodeLaws.{sound_steps}
 use Rattle.ec_durable.proofs.Kept.{below_kept, step_kept}
 use Rattle.ec_store.specs.Places.{ArePlaces}
-use Rattle.ec_layout.proofs.Calls.{turns_none, turns_within}
+use Rattle.ec_journal.proofs.OfLayout.Calls.{turns_none, turns_within}
 use Rattle.ec_stands.specs.Stands.{StandsFor}
 use Rattle.ec_store.specs.Store.{StoreHolds, StandsForEither}
 use Rattle.ec_store.specs.declared.fault.StoreFault.TheVariants as fault

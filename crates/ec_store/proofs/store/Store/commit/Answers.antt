@@ -1,7 +1,7 @@
 use Rattle.std.proofs.Common.{rules, ◌≤◌, ◌<◌, length, inl, IsOk, IsErrOf}
 use Rattle.ec_durable.specs.Codes.{record_code}
 use Rattle.ec_journal.specs.Journal.{need_of}
-use Rattle.ec_layout.specs.Selected.{free_now}
+use Rattle.ec_journal.specs.OfLayout.Selected.{free_now}
 use Rattle.ec_stands.specs.Stands.{StandsFor}
 use Rattle.ec_store.specs.declared.fault.StoreFault.TheVariants as fault
 use Rattle.ec_volume.proofs.Held.{then_ok}

@@ -5,12 +5,12 @@ use Rattle.ec_durable.specs.declared.state.Durable.{Durable}
 use Rattle.ec_durable.specs.WellFormed.{WellFormed, IsInOrder}
 use Rattle.ec_stands.proofs.Volumes.{formatted_well}
 use Rattle.ec_durable.specs.Durable.{formatted}
-use Rattle.ec_layout.specs.Head.{first_word}
-use Rattle.ec_layout.specs.Heads.{empty_awaits}
-use Rattle.ec_layout.specs.Traces.{no_sync_yet}
-use Rattle.ec_layout.specs.Layout.{HasSide, HasSlots}
-use Rattle.ec_layout.specs.Pieces.{AreApart, pieces_of}
-use Rattle.ec_layout.specs.declared.side.Side.TheVariants as side
+use Rattle.ec_journal.specs.OfLayout.Head.{first_word}
+use Rattle.ec_journal.specs.OfLayout.Heads.{empty_awaits}
+use Rattle.ec_journal.specs.OfLayout.Traces.{no_sync_yet}
+use Rattle.ec_journal.specs.OfLayout.Layout.{HasSide, HasSlots}
+use Rattle.ec_journal.specs.OfLayout.Pieces.{AreApart, pieces_of}
+use Rattle.ec_journal.specs.declared.layout.side.Side.TheVariants as side
 use Rattle.ec_stands.specs.Stands.{StandsFor}
 use Rattle.ec_store.proofs.Holding.{held_stands}
 use Rattle.ec_store.proofs.Planning.{no_places, pieces_stand_apart, new_places_are, fresh, fresh_stands, fresh_holds}

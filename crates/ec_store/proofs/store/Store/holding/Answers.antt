@@ -1,7 +1,7 @@
 use Rattle.std.proofs.Common.{None, cond, ℕ, List, ap, sym, subst, ◌∙◌}
 use Rattle.ec_base.specs.Tables.{at}
 use Rattle.ec_volume.specs.Update.{member}
-use Rattle.ec_table.specs.Codes.{numbers_in}
+use Rattle.ec_stands.specs.OfTable.Codes.{numbers_in}
 use Rattle.ec_store.specs.Places.{ArePlaces}
 use Rattle.ec_store.proofs.Members.{left_kept}
 use Rattle.ec_store.proofs.Holding.{fewer_places}

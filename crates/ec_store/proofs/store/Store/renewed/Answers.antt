@@ -1,9 +1,9 @@
 use Rattle.std.proofs.Common.{ℕ, List, [], refl, sym, subst}
-use Rattle.ec_layout.specs.Sides.{other}
-use Rattle.ec_layout.specs.Layout.{Follows}
-use Rattle.ec_layout.specs.Pieces.{AreApart, pieces_of}
-use Rattle.ec_layout.specs.Selected.{side_now}
-use Rattle.ec_table.specs.Codes.{numbers_in}
+use Rattle.ec_journal.specs.OfLayout.Sides.{other}
+use Rattle.ec_journal.specs.OfLayout.Layout.{Follows}
+use Rattle.ec_journal.specs.OfLayout.Pieces.{AreApart, pieces_of}
+use Rattle.ec_journal.specs.OfLayout.Selected.{side_now}
+use Rattle.ec_stands.specs.OfTable.Codes.{numbers_in}
 use Rattle.ec_store.specs.Places.{ArePlaces}
 use Rattle.ec_store.specs.Plan.{IsPlan}
 use Rattle.ec_store.proofs.Renewing.{not_two, none_kept, none_renewed, renewed_apart, renewed_places, renewed_leaves, renewed_holds}

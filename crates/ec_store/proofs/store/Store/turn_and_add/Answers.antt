@@ -1,7 +1,7 @@
 use Rattle.std.proofs.Common.{rules, arith, ◌≡◌, ◌+◌, ℕ, List, length, cond, false, None, Some, ap, sym, subst, inl, inr, ◌∙◌, ◌*◌, IsOk, IsErrOf}
 use Rattle.ec_disk.specs.declared.disk.DiskAnswer.TheVariants as said
 use Rattle.ec_journal.specs.Ends.{EndsBy, ends_later, turns_for}
-use Rattle.ec_layout.proofs.Calls.{turns_none, turns_within, turns_then}
+use Rattle.ec_journal.proofs.OfLayout.Calls.{turns_none, turns_within, turns_then}
 use Rattle.ec_stands.specs.Stands.{StandsFor}
 use Rattle.ec_store.specs.declared.fault.StoreFault.TheVariants as fault
 use Rattle.ec_base.specs.Tables.{at}
@@ -9,12 +9,12 @@ use Rattle.ec_disk.specs.Runs.{leaves_then}
 use Rattle.ec_volume.specs.Update.{member}
 use Rattle.ec_durable.specs.CodeLaws.{sound_steps}
 use Rattle.ec_durable.proofs.Kept.{below_kept, step_kept}
-use Rattle.ec_table.specs.declared.table.Version.TheVariants.{Two}
-use Rattle.ec_layout.specs.Free.{free_below}
-use Rattle.ec_layout.specs.Layout.{Follows}
-use Rattle.ec_layout.specs.Pieces.{AreApart, pieces_of}
-use Rattle.ec_layout.specs.Sides.{other}
-use Rattle.ec_layout.specs.Selected.{side_now}
+use Rattle.ec_stands.specs.declared.table.table.Version.TheVariants.{Two}
+use Rattle.ec_journal.specs.OfLayout.Free.{free_below}
+use Rattle.ec_journal.specs.OfLayout.Layout.{Follows}
+use Rattle.ec_journal.specs.OfLayout.Pieces.{AreApart, pieces_of}
+use Rattle.ec_journal.specs.OfLayout.Sides.{other}
+use Rattle.ec_journal.specs.OfLayout.Selected.{side_now}
 use Rattle.ec_store.specs.Places.{ArePlaces}
 use Rattle.ec_store.specs.Store.{StoreHolds, StandsForEither}
 use Rattle.ec_store.proofs.Members.{left_kept, keeps_left}

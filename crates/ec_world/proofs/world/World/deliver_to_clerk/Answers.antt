@@ -1,6 +1,6 @@
 use Rattle.std.proofs.Common.{◌≡◌, ◌∙◌, List, None, sym, ap}
 use Rattle.ec_history.specs.declared.shown.Shown.{Shown}
-use Rattle.ec_pool.specs.Pools.{with_pool}
+use Rattle.ec_protocol.specs.OfPool.Pools.{with_pool}
 use Rattle.ec_protocol.specs.World.{Moving, come_out, runs}
 use Rattle.ec_world.specs.Worlds.{view_of}
 use Rattle.ec_world.proofs.ClerkSteps.{delivered, vanished, with_clerks}

@@ -4,7 +4,7 @@ use Rattle.ec_protocol.specs.World as machine
 use Rattle.ec_protocol.specs.World.{is_for_server}
 use Rattle.ec_server.specs.Servers.{standing}
 use Rattle.ec_store.specs.Store.{view_of as state_of}
-use Rattle.ec_running.specs.Faults.{of_step}
+use Rattle.ec_clerk.specs.OfRunning.Faults.{of_step}
 use Rattle.ec_world.specs.Serving.{serves}
 use Rattle.ec_world.specs.StepEnds.{IsLeft, under}
 use Rattle.ec_world.specs.Worlds.{view_of}

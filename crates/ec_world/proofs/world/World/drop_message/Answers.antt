@@ -2,7 +2,7 @@ use Rattle.std.proofs.Common.{◌≡◌, ◌∙◌, List, None, sym, ap}
 use Rattle.ec_protocol.specs.World.{Moving, moving}
 use Rattle.ec_world.specs.Worlds.{view_of}
 use Rattle.ec_history.specs.declared.shown.Shown.{Shown}
-use Rattle.ec_pool.specs.Pools.{with_pool}
+use Rattle.ec_protocol.specs.OfPool.Pools.{with_pool}
 use Rattle.ec_world.proofs.Pooled.{kept_is, dropped, not_dropped}
 use Rattle.ec_world.proofs.world.World.drop_message.Goals as goal
 

@@ -2,7 +2,7 @@ use Rattle.std.proofs.Common.{ℕ, List, refl, subst}
 use Rattle.std.specs.Prelude.{IfErr, OnOk}
 use Rattle.ec_protocol.specs.World as machine
 use Rattle.ec_protocol.specs.declared.world.World.{World as State}
-use Rattle.ec_running.specs.Faults.{of_step}
+use Rattle.ec_clerk.specs.OfRunning.Faults.{of_step}
 use Rattle.ec_world.specs.Laws.{in_step_stands}
 use Rattle.ec_world.specs.StepEnds.{under, behind_arm, Fated, RefusesEvent, IsLeft, as_before}
 use Rattle.ec_world.specs.Worlds.{view_of, IsInStep}

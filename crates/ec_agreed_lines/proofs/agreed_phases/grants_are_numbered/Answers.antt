@@ -1,8 +1,0 @@
-use Rattle.ec_agreed_lines.proofs.Suited.{ids-counted, numbers-given}
-use Rattle.ec_agreed_lines.proofs.agreed_phases.grants_are_numbered.Goals as goal
-
-pub returns-clause-tokens : goal.returns-clause-tokens
-returns-clause-tokens c = numbers-given
-
-pub returns-clause-ids : goal.returns-clause-ids
-returns-clause-ids c = ids-counted

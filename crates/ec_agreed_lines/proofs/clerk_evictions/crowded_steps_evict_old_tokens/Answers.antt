@@ -1,5 +1,0 @@
-use Rattle.ec_agreed_lines.proofs.Crowded.{crowded}
-use Rattle.ec_agreed_lines.proofs.clerk_evictions.crowded_steps_evict_old_tokens.Goals as goal
-
-pub returns : goal.returns
-returns c j w k a unowed r = crowded j w k a unowed r

@@ -1,5 +1,0 @@
-use Rattle.ec_agreed_lines.proofs.Beginning.{begins}
-use Rattle.ec_agreed_lines.proofs.clerk_lines.calls_begin.Goals as goal
-
-pub returns : goal.returns
-returns c j sc sl k cl idle is counted may = begins j sc sl k cl idle is counted may

@@ -1,5 +1,0 @@
-use Rattle.ec_agreed_lines.proofs.Reaching.{calls-once}
-use Rattle.ec_agreed_lines.proofs.line_answers.calls_are_answered_once.Goals as goal
-
-pub returns : goal.returns
-returns z w l c cl r none fine reached = calls-once l c cl w r none fine reached

@@ -1,5 +1,0 @@
-use Rattle.ec_agreed_lines.proofs.Placing.{placed-behind}
-use Rattle.ec_agreed_lines.proofs.placed_closures.write_behind_is_placed.Goals as goal
-
-pub returns : goal.returns
-returns c v f n ss formed top t l s i = placed-behind v f n ss formed top t l s i

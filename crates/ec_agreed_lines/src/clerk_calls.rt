@@ -1,7 +1,0 @@
-// Calls of a line's clerk whose cache shows a well-formed volume.
-ghost use Rattle.ec_agreed_lines.specs.Shown.{CallsMayGo};
-
-/// What such a call lacks is touched, an update of it may be issued, and only old tokens are too many.
-pub fn calls_may_go()
-    ensures { CallsMayGo }
-{}

@@ -1,6 +1,0 @@
-use Rattle.std.proofs.Common.{length}
-use Rattle.ec_chains.proofs.front.+note_all.Given as goal
-
--- the objects that are left
-abbrev pub decreases-note_all : goal.decreases-note_all
-decreases-note_all l = length l.objs.now

@@ -1,6 +1,0 @@
-mod Walk
-mod Grows
-mod Prompt
-mod Modes
-mod Wants
-mod Tokens

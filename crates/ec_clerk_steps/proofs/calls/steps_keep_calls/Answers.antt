@@ -1,8 +1,0 @@
-use Rattle.ec_clerk_steps.proofs.Quiet.{begins-step, quiet-calls, quiet-lines}
-use Rattle.ec_clerk_steps.proofs.calls.steps_keep_calls.Goals as goal
-
-pub returns-clause-begin : goal.returns-clause-begin
-returns-clause-begin z = begins-step
-
-pub returns-clause-quiet : goal.returns-clause-quiet
-returns-clause-quiet z g c b d e γ q = (quiet-calls g c b d e γ q, quiet-lines g c b d e γ q)

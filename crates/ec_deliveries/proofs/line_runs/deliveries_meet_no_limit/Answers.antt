@@ -1,5 +1,0 @@
-use Rattle.ec_deliveries.proofs.Fine.{fine}
-use Rattle.ec_deliveries.proofs.line_runs.deliveries_meet_no_limit.Goals as goal
-
-pub returns : goal.returns
-returns z j w sc p t rest n i q can head due far = fine j w sc p t rest i q can head far n due

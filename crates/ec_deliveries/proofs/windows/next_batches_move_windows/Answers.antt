@@ -1,8 +1,0 @@
-use Rattle.ec_deliveries.proofs.Windowed.{next-new, next-moved}
-use Rattle.ec_deliveries.proofs.windows.next_batches_move_windows.Goals as goal
-
-pub returns-clause-new : goal.returns-clause-new
-returns-clause-new c = next-new
-
-pub returns-clause-moved : goal.returns-clause-moved
-returns-clause-moved c = next-moved

@@ -1,7 +1,0 @@
-// Tokens that the line's clerk had too much.
-ghost use Rattle.ec_deliveries.specs.Coming.{OldTokensLeave};
-
-/// Such a token leaves the phase as it is, and less is left by its message.
-pub fn old_tokens_leave()
-    ensures { OldTokensLeave }
-{}

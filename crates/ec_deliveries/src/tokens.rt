@@ -1,8 +1,0 @@
-// Tokens that come back from holders.
-ghost use Rattle.ec_deliveries.specs.Coming.{BacksComeBack};
-
-/// A holder's token that was recalled comes back: the others are still waited for, or the want is
-/// granted.
-pub fn recalled_tokens_are_delivered()
-    ensures { BacksComeBack }
-{}

@@ -1,0 +1,16 @@
+pub mod Greatest
+pub mod Fit
+pub mod Calm
+pub mod Left
+pub mod Moments
+pub mod Plain
+pub mod Lawful
+pub mod Completes
+pub mod Rooms
+pub mod Spared
+pub mod Named
+pub mod Spent
+pub mod Cut
+pub mod Behind
+pub mod OfRooms
+pub mod OfSpent

@@ -1,0 +1,12 @@
+pub mod Pieces
+pub mod Spared
+pub mod Left
+pub mod Promise
+pub mod LawfulEnds
+pub mod Completes
+pub mod PlainEnds
+pub mod Rooms
+pub mod Spent
+pub mod Behind
+pub mod OfRooms
+pub mod OfSpent

@@ -1,0 +1,5 @@
+use Rattle.ec_history.proofs.OfLaws.Taken.{taken-covered}
+use Rattle.ec_history.proofs.laws.insertion.late_call_is_covered.Goals as goal
+
+pub returns : goal.returns
+returns c = taken-covered

@@ -1,0 +1,13 @@
+pub mod Example
+pub mod Needs
+pub mod ListExample
+pub mod Bases
+pub mod FormedExample
+pub mod Accounts
+pub mod Laws
+pub mod Renaming
+pub mod Renamed
+pub mod RenamedExample
+pub mod Placing
+pub mod NewIds
+pub mod OfPrinted

@@ -1,0 +1,25 @@
+use Rattle.std.proofs.Common.{rules}
+use Rattle.ec_journal.specs.OfLayout.Layout.{Layout, Lies}
+use Rattle.ec_journal.specs.OfLayout.Selected.{IsOn}
+use Rattle.ec_journal.proofs.OfLayout.Selecting.{body_leaves, body_keeps, body_added}
+use Rattle.ec_journal.proofs.layout.selected.Selected.append.Goals as goal
+
+pub returns-in_err-append_staged-clause-any_moment : goal.returns-in_err-append_staged-clause-any_moment
+returns-in_err-append_staged-clause-any_moment g c told l on =
+    body_leaves (g.D.Disk.view c.args.disk.now) (g.D.Disk.view c.append_staged.new.disk) l c.args.self.now c.args.entry.now on (c.append_staged.ensures.ran told) (c.append_staged.ensures.any_moment told)
+
+pub returns-clause-any_moment : goal.returns-clause-any_moment
+returns-clause-any_moment g c told l on =
+    body_leaves (g.D.Disk.view c.args.disk.now) (g.D.Disk.view c.append_staged.new.disk) l c.args.self.now c.args.entry.now on (c.append_staged.ensures.ran told) (c.append_staged.ensures.any_moment told)
+
+pub returns-clause-ok : goal.returns-clause-ok
+returns-clause-ok g c told l on =
+    body_added (g.D.Disk.view c.args.disk.now) (g.D.Disk.view c.append_staged.new.disk) l c.args.self.now c.append_staged.new.self c.args.entry.now on (c.append_staged.ensures.ran told) (c.in_ok-append_staged.ensures.ok told)
+    c.append_staged.ensures.place.0 c.append_staged.ensures.place.1
+
+pub returns-in_err-append_staged-clause-old : goal.returns-in_err-append_staged-clause-old
+returns-in_err-append_staged-clause-old g c =
+    let new = g.D.Disk.view c.append_staged.new.disk in
+    let keeps : g.D.Disk.tells → (l : Layout) → IsOn (g.D.Disk.view c.args.disk.now) c.args.self.now l → Lies new.synced l = λ told l on.
+    body_keeps (g.D.Disk.view c.args.disk.now) new l c.args.self.now c.args.entry.now on (c.append_staged.ensures.ran told) (c.in_err-append_staged.ensures.old told) (g.met.D.Disk.given_synced told c.append_staged.new.disk) in
+    search (rules, keeps)

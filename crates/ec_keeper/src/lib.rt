@@ -1,8 +1,0 @@
-//! What keeps a server's durable state on a disk, and the opening of one.
-#![tactic(auto)]
-
-mod keeper;
-mod opening;
-
-pub use keeper::DiskKeeper;
-pub use opening::open;

@@ -1,8 +1,0 @@
-use Rattle.ec_laws.proofs.Numbers.{issued-up_to, kept-up_to}
-use Rattle.ec_laws.proofs.append.next_number_is_new.Goals as goal
-
-pub returns-clause-among_issued : goal.returns-clause-among_issued
-returns-clause-among_issued c = issued-up_to
-
-pub returns-clause-among_kept : goal.returns-clause-among_kept
-returns-clause-among_kept c = kept-up_to

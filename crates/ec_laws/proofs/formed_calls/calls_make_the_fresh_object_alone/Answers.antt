@@ -1,5 +1,0 @@
-use Rattle.ec_laws.proofs.Fresh.{gone-stays, plain-makes}
-use Rattle.ec_laws.proofs.formed_calls.calls_make_the_fresh_object_alone.Goals as goal
-
-pub returns : goal.returns
-returns c v cl fresh u e o apart gone = gone-stays o (v o) u gone (λ m. apart (plain-makes fresh v cl u e o m))

@@ -1,7 +1,0 @@
-use Rattle.ec_laws.proofs.KeptFormed.{kept-formed, kept-held}
-use Rattle.ec_laws.proofs.Laws.{kept-reached, call-sound, call-fits}
-use Rattle.ec_laws.proofs.Keeping.{gone}
-use Rattle.ec_laws.proofs.formed_histories.fresh_ids_are_gone.Goals as goal
-
-pub returns : goal.returns
-returns c = λ base most h e is. gone kept-formed kept-reached call-sound call-fits kept-held base is most h e

@@ -1,5 +1,0 @@
-use Rattle.ec_laws.proofs.Reading.{read-by-places}
-use Rattle.ec_laws.proofs.new_ids.new_ids_are_read.Goals as goal
-
-pub returns : goal.returns
-returns z v f n ss formed top t = read-by-places v f n ss formed top t

@@ -1,8 +1,0 @@
-use Rattle.ec_laws.proofs.Places.{places-within, places-distinct}
-use Rattle.ec_laws.proofs.placing.places_are_distinct.Goals as goal
-
-pub returns-clause-within : goal.returns-clause-within
-returns-clause-within c = places-within
-
-pub returns-clause-apart : goal.returns-clause-apart
-returns-clause-apart c = places-distinct

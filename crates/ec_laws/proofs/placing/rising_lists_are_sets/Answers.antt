@@ -1,8 +1,0 @@
-use Rattle.ec_laws.proofs.Sets.{same-self, rising-same}
-use Rattle.ec_laws.proofs.placing.rising_lists_are_sets.Goals as goal
-
-pub returns-clause-own : goal.returns-clause-own
-returns-clause-own c = same-self
-
-pub returns-clause-rising : goal.returns-clause-rising
-returns-clause-rising c = rising-same

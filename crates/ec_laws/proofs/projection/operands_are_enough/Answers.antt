@@ -1,8 +1,0 @@
-use Rattle.ec_laws.proofs.Objects.{fits-operands, fits-tried}
-use Rattle.ec_laws.proofs.projection.operands_are_enough.Goals as goal
-
-pub returns-clause-one : goal.returns-clause-one
-returns-clause-one c = fits-operands
-
-pub returns-clause-list : goal.returns-clause-list
-returns-clause-list c = fits-tried

@@ -1,5 +1,0 @@
-use Rattle.ec_lease_laws.proofs.Unheld.{unheld-told}
-use Rattle.ec_lease_laws.proofs.leases.unheld_clerks_are_told.Goals as goal
-
-pub returns : goal.returns
-returns z g all doubt x st a c s q f = unheld-told g all doubt x st a c s q f

@@ -1,0 +1,4 @@
+pub mod OfQueues
+pub mod OfLeaseLaws
+pub mod OfTimely
+pub mod OfLeaseWorlds

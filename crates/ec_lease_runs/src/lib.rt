@@ -1,7 +1,0 @@
-//! Random scripts with leases, run through the machine: it shows what a simulator written independently of it shows. Each function carries facts alone
-//! and does nothing.
-#![tactic(auto)]
-
-pub mod crashes;
-pub mod network;
-pub mod stops;

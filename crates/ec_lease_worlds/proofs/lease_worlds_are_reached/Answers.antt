@@ -1,5 +1,0 @@
-use Rattle.ec_lease_worlds.proofs.Reaching.{leases-reach}
-use Rattle.ec_lease_worlds.proofs.lease_worlds_are_reached.Goals as goal
-
-pub returns : goal.returns
-returns z d wf sixteen zero x r = leases-reach d wf sixteen zero x r

@@ -1,4 +1,0 @@
-mod Words
-mod Names
-mod Calls
-pub mod Made

@@ -1,6 +1,0 @@
-mod Bytes
-mod Facts
-mod Lines
-mod Runs
-mod Words
-pub mod Promised

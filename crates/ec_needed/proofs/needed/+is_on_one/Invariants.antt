@@ -1,5 +1,0 @@
-use Rattle.std.proofs.Common.{length}
-use Rattle.ec_needed.proofs.needed.+is_on_one.Given as goal
-
-abbrev pub decreases-is_on_one : goal.decreases-is_on_one
-decreases-is_on_one l = length l.objs.now

@@ -1,6 +1,0 @@
-//! What chosen operations need of the earlier ones.
-#![tactic(auto)]
-
-mod needed;
-
-pub use needed::Needed;

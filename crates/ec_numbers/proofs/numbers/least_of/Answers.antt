@@ -1,5 +1,0 @@
-use Rattle.ec_numbers.proofs.Least.{under-all}
-use Rattle.ec_numbers.proofs.numbers.least_of.Goals as goal
-
-pub returns : goal.returns
-returns c = under-all c.args.ops.now c.loop-op.op-index c.loop-op.least c.loop-op.invariant c.loop-op-test.false

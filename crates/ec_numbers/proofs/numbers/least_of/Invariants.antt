@@ -1,6 +1,0 @@
-use Rattle.std.proofs.Common.{take}
-use Rattle.ec_numbers.proofs.Least.{IsUnder}
-use Rattle.ec_numbers.proofs.numbers.least_of.Given as goal
-
-abbrev pub invariant-loop-op : goal.invariant-loop-op
-invariant-loop-op l = IsUnder l.least (take l.op-index l.ops)

@@ -1,8 +1,0 @@
-use Rattle.ec_once.proofs.Steps.{acts-safe, new-safe}
-use Rattle.ec_once.proofs.lists_of_steps_are_safe.Goals as goal
-
-pub returns-clause-acts : goal.returns-clause-acts
-returns-clause-acts c = acts-safe
-
-pub returns-clause-new : goal.returns-clause-new
-returns-clause-new c = new-safe

@@ -1,5 +1,0 @@
-use Rattle.ec_overlay.proofs.Fine.{fine-put}
-use Rattle.ec_overlay.proofs.changed.Changed.put.Goals as goal
-
-pub invariant_of-self : goal.invariant_of-self
-invariant_of-self c = fine-put c.insert.result c.args.obj c.args.image c.self.inside.table c.insert.new.self c.insert.ensures.ok c.insert.ensures.err c.requires c.self.invariant

@@ -1,8 +1,0 @@
-//! A volume with changed images laid over it, of which each can be made anew from the volume below.
-#![tactic(auto)]
-
-mod changed;
-mod overlay;
-
-pub use changed::Changed;
-pub use overlay::Overlay;

@@ -1,6 +1,0 @@
-use Rattle.std.proofs.Common.{◌∙◌, sym}
-use Rattle.ec_owes.proofs.Due.{sync-reports}
-use Rattle.ec_owes.proofs.owes.Owes.report.Goals as goal
-
-pub returns-then-is_sync : goal.returns-then-is_sync
-returns-then-is_sync c = c.clear.ensures ∙ sync-reports c.args.outcome.now c.args.call.now c.args.self.now (sym c.is_sync.ensures ∙ c.if-is_sync.true)

@@ -1,6 +1,0 @@
-use Rattle.std.proofs.lemmas.Bool.Decides.{Decides-eqb}
-use Rattle.std.proofs.lemmas.Slice.Eq.{slice_eq-Decides}
-use Rattle.ec_owes.proofs.replies.same_bytes.Goals as goal
-
-pub returns : goal.returns
-returns c = slice_eq-Decides Decides-eqb c.args.bytes.now c.args.others.now _ c.eq.ensures

@@ -1,0 +1,5 @@
+use Rattle.ec_quiet.proofs.OfDeliveries.Worked.{own-wait}
+use Rattle.ec_quiet.proofs.deliveries.write_behind.own_operations_wait.Goals as goal
+
+pub returns : goal.returns
+returns c = own-wait

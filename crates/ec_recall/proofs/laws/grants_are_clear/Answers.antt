@@ -1,9 +1,0 @@
-use Rattle.std.proofs.Common.{[]}
-use Rattle.ec_recall.specs.Laws.{grants_are_clear, go_in}
-use Rattle.ec_recall.proofs.laws.grants_are_clear.Goals as goal
-
-pub returns-clause-apart : goal.returns-clause-apart
-returns-clause-apart c = λ ts ws. grants_are_clear ts [] ws
-
-pub returns-clause-recorded : goal.returns-clause-recorded
-returns-clause-recorded c = go_in

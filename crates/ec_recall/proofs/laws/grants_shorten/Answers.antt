@@ -1,8 +1,0 @@
-use Rattle.ec_recall.specs.Laws.{counted, shorter}
-use Rattle.ec_recall.proofs.laws.grants_shorten.Goals as goal
-
-pub returns-clause-count : goal.returns-clause-count
-returns-clause-count c = counted
-
-pub returns-clause-shorter : goal.returns-clause-shorter
-returns-clause-shorter c = shorter

@@ -1,2 +1,0 @@
-mod Roomy
-pub mod Rooms

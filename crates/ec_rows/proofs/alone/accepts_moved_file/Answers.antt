@@ -1,7 +1,0 @@
-use Rattle.ec_history.specs.Legal.{from_formatted}
-use Rattle.ec_rows.specs.Alone.{moved_file}
-use Rattle.ec_rows.proofs.Tests.{covered_by_test}
-use Rattle.ec_rows.proofs.alone.accepts_moved_file.Goals as goal
-
-pub returns-clause-covered : goal.returns-clause-covered
-returns-clause-covered c = covered_by_test from_formatted moved_file tt

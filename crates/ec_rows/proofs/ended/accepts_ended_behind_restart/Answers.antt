@@ -1,7 +1,0 @@
-use Rattle.ec_history.specs.Legal.{from_formatted}
-use Rattle.ec_rows.specs.Ended.{ended_behind_restart}
-use Rattle.ec_rows.proofs.Tests.{covered_by_test}
-use Rattle.ec_rows.proofs.ended.accepts_ended_behind_restart.Goals as goal
-
-pub returns-clause-covered : goal.returns-clause-covered
-returns-clause-covered c = covered_by_test from_formatted ended_behind_restart tt

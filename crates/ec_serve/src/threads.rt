@@ -1,0 +1,6 @@
+//! The links of a server, each of which is served in a thread of its own.
+mod connections;
+mod threads;
+
+pub use connections::Connections;
+pub use threads::{Ran, run_all};

@@ -1,7 +1,0 @@
-use Rattle.ec_table.proofs.Written.{slots_fit}
-use Rattle.ec_table.specs.Codes.{slots_field}
-use Rattle.ec_table.proofs.writing.put_slots.Goals as goal
-
-pub returns-clause-written : goal.returns-clause-written
-unfolding slots_field
-returns-clause-written c = (c.in_ok-put_each_slot.ensures.spelled, slots_fit c.args.sessions.now c.in_ok-put_each_slot.ensures.sixteen c.in_ok-put_each_slot.ensures.fit)

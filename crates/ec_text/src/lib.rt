@@ -1,9 +1,0 @@
-//! The text of transcripts.
-#![tactic(auto)]
-
-mod answer;
-mod asked;
-mod line;
-mod pieces;
-
-pub use line::{print, print_answer, print_call};

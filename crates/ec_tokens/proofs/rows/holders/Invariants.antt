@@ -1,6 +1,0 @@
-use Rattle.std.proofs.Common.{◌≡◌, ◌++◌, drop}
-use Rattle.ec_tokens.specs.Tokens.{holders}
-use Rattle.ec_tokens.proofs.rows.holders.Given as goal
-
-abbrev pub invariant-loop-session : goal.invariant-loop-session
-invariant-loop-session l = l.list.items ++ holders (drop l.session-index l.session-items) l.obj ≡ holders l.rows l.obj

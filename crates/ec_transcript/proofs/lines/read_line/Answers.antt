@@ -1,5 +1,0 @@
-use Rattle.ec_transcript.proofs.Reading.{ok-bounded}
-use Rattle.ec_transcript.proofs.lines.read_line.Goals as goal
-
-pub returns-clause-bounded : goal.returns-clause-bounded
-returns-clause-bounded c = ok-bounded c.args.line.now c.read.result c.read.ensures

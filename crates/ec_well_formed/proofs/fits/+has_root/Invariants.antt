@@ -1,5 +1,0 @@
-use Rattle.std.proofs.Common.{length}
-use Rattle.ec_well_formed.proofs.fits.+has_root.Given as goal
-
-abbrev pub decreases-has_root : goal.decreases-has_root
-decreases-has_root l = length l.objects.now

@@ -1,6 +1,0 @@
-use Rattle.std.proofs.Common.{◌≡◌, take}
-use Rattle.ec_base.specs.Tables.{keys}
-use Rattle.ec_well_formed.proofs.lists.ids_of.Given as goal
-
-abbrev pub invariant-images : goal.invariant-images
-invariant-images l = l.ids.items ≡ keys (take l.image-index l.images)

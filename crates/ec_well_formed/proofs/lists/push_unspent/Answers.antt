@@ -1,5 +1,0 @@
-use Rattle.ec_well_formed.proofs.Adding.{unspent_more}
-use Rattle.ec_well_formed.proofs.lists.push_unspent.Goals as goal
-
-pub slots-preserved : goal.slots-preserved
-slots-preserved c = unspent_more c.args.slots.now c.slots.slot-index c.slot-item.result c.args.ids.now.items c.slots.ids.items c.push_slot.new.ids.items c.slots-test.true c.slot-item.is c.slots.invariant c.in_ok-push_slot.ensures
