@@ -35,6 +35,13 @@ pub struct Ended<K: Keeper + Drop, L: Link + Drop> {
     pub is_over: bool,
 }
 
+// Where a link stands among the bells of those that are served.
+#[derive(Drop)]
+struct Place<'b, B: Bell + Drop, D: Bell + Drop> {
+    bells: &'b Bells<B, D>,
+    number: u64,
+}
+
 /// Serves the link to its end, or until the server is down. Its key then stands among those that have ended.
 pub fn serve_connection<K: Keeper + Drop, L: Link + Drop, D: Bell + Drop, R: Around + Eprint>(
     rt: &R,
@@ -51,7 +58,8 @@ pub fn serve_connection<K: Keeper + Drop, L: Link + Drop, D: Bell + Drop, R: Aro
         mut pass,
         mut link,
     } = connection;
-    let end = serve_link(rt, server, bells, number, &mut pass, &mut link);
+    let place = Place { bells, number };
+    let end = serve_link(rt, server, &place, &mut pass, &mut link);
     let is_over = is_over(&end);
     tell_end(rt, number, bells.remove(rt, number), &end);
     link.hang_up();
@@ -81,8 +89,7 @@ fn is_over(end: &Result<Gone, ServeFault>) -> bool
 fn serve_link<K: Keeper + Drop, L: Link, D: Bell + Drop, R: Around + Eprint>(
     rt: &R,
     server: &SharedServer<K>,
-    bells: &Bells<L::Bell, D>,
-    number: u64,
+    place: &Place<'_, L::Bell, D>,
     pass: &mut ServerPass<K>,
     link: &mut L,
 ) -> Result<Gone, ServeFault>
@@ -101,27 +108,25 @@ fn serve_link<K: Keeper + Drop, L: Link, D: Bell + Drop, R: Around + Eprint>(
     let Ok(bell) = Arc::new(rt.alloc(), bell) else {
         return Err(ServeFault::NoMemory);
     };
-    if add_bell(rt, bells, number, &bell).is_err() {
+    if add_bell(rt, place, &bell).is_err() {
         return Err(ServeFault::NoMemory);
     }
-    take_turns(rt, server, bells, number, &*bell, pass, link)
+    take_turns(rt, server, place, &*bell, pass, link)
 }
 
 fn add_bell<B: Bell + Drop, D: Bell + Drop, R: Around>(
     rt: &R,
-    bells: &Bells<B, D>,
-    number: u64,
+    place: &Place<'_, B, D>,
     bell: &Arc<B>,
 ) -> Result<(), NoMemory> {
-    bells.add(rt, number, Arc::try_clone(bell)?)
+    place.bells.add(rt, place.number, Arc::try_clone(bell)?)
 }
 
 // Takes turns with the link until it's at its end.
 fn take_turns<K: Keeper + Drop, L: Link, D: Bell + Drop, R: Around + Eprint>(
     rt: &R,
     server: &SharedServer<K>,
-    bells: &Bells<L::Bell, D>,
-    number: u64,
+    place: &Place<'_, L::Bell, D>,
     bell: &L::Bell,
     pass: &mut ServerPass<K>,
     link: &mut L,
@@ -134,7 +139,7 @@ fn take_turns<K: Keeper + Drop, L: Link, D: Bell + Drop, R: Around + Eprint>(
     ensures served { WasServed L.given L.got (is_over result) pass.new.pass link.new }
 {
     for _ in rt.forever() {
-        if let Some(end) = turn(rt, server, bells, number, bell, pass, link) {
+        if let Some(end) = turn(rt, server, place, bell, pass, link) {
             return end;
         }
     }
@@ -145,8 +150,7 @@ fn take_turns<K: Keeper + Drop, L: Link, D: Bell + Drop, R: Around + Eprint>(
 fn turn<K: Keeper + Drop, L: Link, D: Bell + Drop, R: Around + Eprint>(
     rt: &R,
     server: &SharedServer<K>,
-    bells: &Bells<L::Bell, D>,
-    number: u64,
+    place: &Place<'_, L::Bell, D>,
     bell: &L::Bell,
     pass: &mut ServerPass<K>,
     link: &mut L,
@@ -162,7 +166,7 @@ fn turn<K: Keeper + Drop, L: Link, D: Bell + Drop, R: Around + Eprint>(
     let seen = bell.rings();
     match server.serve_one(rt, pass, link) {
         Ok(Turned::Took(told)) => {
-            ring(rt, bells, number, pass, told);
+            ring(rt, place, pass, told);
             None
         }
         Ok(Turned::Gave) => None,
@@ -176,7 +180,7 @@ fn turn<K: Keeper + Drop, L: Link, D: Bell + Drop, R: Around + Eprint>(
         }
         Ok(Turned::Replaced) => Some(Ok(Gone::Replaced)),
         Ok(Turned::Closed) => Some(Ok(Gone::Closed)),
-        Err(ServeFault::Net) => Some(take_rest(rt, server, bells, number, pass, link)),
+        Err(ServeFault::Net) => Some(take_rest(rt, server, place, pass, link)),
         Err(fault) => Some(Err(fault)),
     }
 }
@@ -185,8 +189,7 @@ fn turn<K: Keeper + Drop, L: Link, D: Bell + Drop, R: Around + Eprint>(
 fn take_rest<K: Keeper + Drop, L: Link, D: Bell + Drop, R: Around + Eprint>(
     rt: &R,
     server: &SharedServer<K>,
-    bells: &Bells<L::Bell, D>,
-    number: u64,
+    place: &Place<'_, L::Bell, D>,
     pass: &mut ServerPass<K>,
     link: &mut L,
 ) -> Result<Gone, ServeFault>
@@ -200,7 +203,7 @@ fn take_rest<K: Keeper + Drop, L: Link, D: Bell + Drop, R: Around + Eprint>(
 {
     for _ in 0..MOST_REST {
         match server.serve_one(rt, pass, link) {
-            Ok(Turned::Took(told)) => ring(rt, bells, number, pass, told),
+            Ok(Turned::Took(told)) => ring(rt, place, pass, told),
             Ok(_) => return Err(ServeFault::Net),
             Err(fault) => return Err(fault),
         }
@@ -211,13 +214,12 @@ fn take_rest<K: Keeper + Drop, L: Link, D: Bell + Drop, R: Around + Eprint>(
 // A message was taken. A Hello says whose link it is.
 fn ring<K: Keeper + Drop, B: Bell + Drop, D: Bell + Drop, R: Around + Eprint>(
     rt: &R,
-    bells: &Bells<B, D>,
-    number: u64,
+    place: &Place<'_, B, D>,
     pass: &ServerPass<K>,
     told: Told,
 ) {
-    if pass.greets() && bells.greet(rt, number, pass.clerk()) {
-        tell_greeting(rt, number, pass.clerk());
+    if pass.greets() && place.bells.greet(rt, place.number, pass.clerk()) {
+        tell_greeting(rt, place.number, pass.clerk());
     }
-    bells.ring(rt, number, told);
+    place.bells.ring(rt, place.number, told);
 }
