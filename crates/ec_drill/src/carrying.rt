@@ -21,12 +21,18 @@ use ec_script::Line;
 use ec_world::World;
 use std::alloc::Global;
 
-/// Carries out the line of this number, and adds the lines that it shows to the piece. After it at most so many messages are delivered.
+/// With what a run carries out its lines: memory, and at most so many messages that are delivered behind each.
+#[derive(Clone, Copy, Drop)]
+pub(crate) struct Means {
+    pub alloc: Global,
+    pub bound: u64,
+}
+
+/// Carries out the line of this number, and adds the lines that it shows to the piece.
 pub(crate) fn carry_out<D: CrashDisk>(
-    alloc: Global,
+    means: Means,
     world: &mut World,
     disk: &mut D,
-    bound: u64,
     number: u32,
     line: Line,
     piece: &mut Vec<Shown>,
@@ -36,18 +42,18 @@ pub(crate) fn carry_out<D: CrashDisk>(
     ensures carried { (may_stop : Bool) → IsCalm may_stop (is_arm (machine_line line)) (D.counts disk.old)
         → (fates : Fates) × AreOfLine fates (heard may_stop (D.counts disk.old)) (heard may_stop (D.counts disk.new))
         × (IsKnown D.tells (heard may_stop (D.counts disk.old)).stops (heard may_stop (D.counts disk.new)).stops
-        → ComesTo result (carry_out bound fates number (machine_line line) (view_of world.old)) (view_of world.new) piece.new.items)
-        × OnErr result (D.tells → EachLeft (D.view disk.new) (IsCarrying bound fates number (machine_line line) (view_of world.old)))
+        → ComesTo result (carry_out means.bound fates number (machine_line line) (view_of world.old)) (view_of world.new) piece.new.items)
+        × OnErr result (D.tells → EachLeft (D.view disk.new) (IsCarrying means.bound fates number (machine_line line) (view_of world.old)))
         × OnOk result (IsKnown D.tells (heard may_stop (D.counts disk.old)).stops (heard may_stop (D.counts disk.new)).stops
-        → LineArms bound fates number (machine_line line) (view_of world.old) (D.counts disk.old).armed (D.counts disk.new).armed) }
+        → LineArms means.bound fates number (machine_line line) (view_of world.old) (D.counts disk.old).armed (D.counts disk.new).armed) }
     ensures in_step { StaysBut result (IsInStep D.tells (D.view disk.new) world.new) }
     ensures counts { IsLater (D.counts disk.old) (D.counts disk.new) (result ≡ Err fault.DiskFailed) }
     ensures quiet { is_arm (machine_line line) ≡ false → IsSome (D.counts disk.new).armed → IsSome (D.counts disk.old).armed }
 {
-    if let Err(fault) = begin(alloc, world, disk, number, line, piece) {
+    if let Err(fault) = begin(means.alloc, world, disk, number, line, piece) {
         return Err(fault);
     }
-    settle(alloc, world, disk, bound, piece)
+    settle(means.alloc, world, disk, means.bound, piece)
 }
 
 // The event of a line.

@@ -9,7 +9,7 @@ ghost use Rattle.ec_drill.specs.Lines.{read_of};
 ghost use Rattle.ec_drill.specs.Steps.{Ended, CutOff, LineDone, LineCut, IsLater, PendingEnd, ending_of, line_end};
 ghost use Rattle.ec_drill.specs.Script.{machine_line};
 
-use crate::carrying::carry_out;
+use crate::carrying::{Means, carry_out};
 use crate::limits::MOST_PENDING;
 use crate::script::ScriptLine;
 use crate::writing::{Cut, write_lines};
@@ -35,20 +35,19 @@ pub(crate) enum Ending {
 
 /// Carries out the lines of a script in order, and writes the piece of each.
 pub(crate) fn run<D: CrashDisk, K: Sink>(
-    alloc: Global,
+    means: Means,
     world: &mut World,
     disk: &mut D,
     sink: &mut K,
-    bound: u64,
     lines: Vec<ScriptLine>,
 ) -> Result<Ending, Cut>
     requires in_step { IsInStep D.tells (D.view disk.old) world.old }
     requires few { length lines.items ≤ most_lines }
     ensures ran { MatchResult result
         (λ ending. (may_stop : Bool) → IsCalm may_stop (any_arm (map read_of lines.items)) (D.counts disk.old)
-        → Ended D.tells (heard may_stop (D.counts disk.old)).stops (heard may_stop (D.counts disk.new)).stops bound (D.counts disk.old).armed (map read_of lines.items) (view_of world.old) (ending_of ending) (view_of world.new) (K.held sink.old) (K.held sink.new))
+        → Ended D.tells (heard may_stop (D.counts disk.old)).stops (heard may_stop (D.counts disk.new)).stops means.bound (D.counts disk.old).armed (map read_of lines.items) (view_of world.old) (ending_of ending) (view_of world.new) (K.held sink.old) (K.held sink.new))
         (λ cut. (may_stop : Bool) → IsCalm may_stop (any_arm (map read_of lines.items)) (D.counts disk.old)
-        → CutOff D.tells (heard may_stop (D.counts disk.old)).stops (heard may_stop (D.counts disk.new)).stops (D.view disk.new) bound (map read_of lines.items) (view_of world.old) cut (K.held sink.old) (K.held sink.new) (K.faults sink.old) (K.faults sink.new) (D.counts disk.old).faults (D.counts disk.new).faults) }
+        → CutOff D.tells (heard may_stop (D.counts disk.old)).stops (heard may_stop (D.counts disk.new)).stops (D.view disk.new) means.bound (map read_of lines.items) (view_of world.old) cut (K.held sink.old) (K.held sink.new) (K.faults sink.old) (K.faults sink.new) (D.counts disk.old).faults (D.counts disk.new).faults) }
     ensures in_step { OnOk result (IsInStep D.tells (D.view disk.new) world.new) }
     ensures counts { IsLater (D.counts disk.old) (D.counts disk.new) ⊥ }
     ensures later { K.faults sink.old ≤ K.faults sink.new }
@@ -56,7 +55,7 @@ pub(crate) fn run<D: CrashDisk, K: Sink>(
     let mut ahead = lines.into_iter();
     let mut number: u32 = 1;
     'lines: while let Some(line) = ahead.next() {
-        match carry(alloc, world, disk, sink, bound, number, line) {
+        match carry(means, world, disk, sink, number, line) {
             Ok(None) => number += 1,
             Ok(Some(ending)) => return Ok(ending),
             Err(cut) => return Err(cut),
@@ -65,22 +64,28 @@ pub(crate) fn run<D: CrashDisk, K: Sink>(
     Ok(Ending::Done)
 }
 
+// Where a line stands in the script, and the column from which it couldn't be carried out.
+#[derive(Clone, Copy, Drop)]
+struct Place {
+    number: u32,
+    column: u32,
+}
+
 // Carries out the line of this number, if it's in the grammar, and writes its piece.
 fn carry<D: CrashDisk, K: Sink>(
-    alloc: Global,
+    means: Means,
     world: &mut World,
     disk: &mut D,
     sink: &mut K,
-    bound: u64,
     number: u32,
     line: ScriptLine,
 ) -> Result<Option<Ending>, Cut>
     requires { IsInStep D.tells (D.view disk.old) world.old }
     ensures carried { MatchResult result
         (λ ending. (may_stop : Bool) → IsCalm may_stop (is_arm_read (read_of line)) (D.counts disk.old)
-        → LineDone D.tells (heard may_stop (D.counts disk.old)) (heard may_stop (D.counts disk.new)) bound number (read_of line) (view_of world.old) (view_of world.new) ending (K.held sink.old) (K.held sink.new))
+        → LineDone D.tells (heard may_stop (D.counts disk.old)) (heard may_stop (D.counts disk.new)) means.bound number (read_of line) (view_of world.old) (view_of world.new) ending (K.held sink.old) (K.held sink.new))
         (λ cut. (may_stop : Bool) → IsCalm may_stop (is_arm_read (read_of line)) (D.counts disk.old)
-        → LineCut D.tells (heard may_stop (D.counts disk.old)) (heard may_stop (D.counts disk.new)) (D.view disk.new) bound number (read_of line) (view_of world.old) cut (K.held sink.old) (K.held sink.new) (K.faults sink.old) (K.faults sink.new)) }
+        → LineCut D.tells (heard may_stop (D.counts disk.old)) (heard may_stop (D.counts disk.new)) (D.view disk.new) means.bound number (read_of line) (view_of world.old) cut (K.held sink.old) (K.held sink.new) (K.faults sink.old) (K.faults sink.new)) }
     ensures in_step { OnOk result (IsInStep D.tells (D.view disk.new) world.new) }
     ensures counts { IsLater (D.counts disk.old) (D.counts disk.new) ⊥ }
     ensures later { K.faults sink.old ≤ K.faults sink.new }
@@ -88,40 +93,39 @@ fn carry<D: CrashDisk, K: Sink>(
 {
     match line {
         ScriptLine::Fits(line, column) => {
-            carry_fit(alloc, world, disk, sink, bound, number, line, column)
+            carry_fit(means, world, disk, sink, Place { number, column }, line)
         }
         ScriptLine::Unfit(column) => Ok(Some(Ending::BadLine(number, column))),
     }
 }
 
+// Carries out a line of the grammar.
 fn carry_fit<D: CrashDisk, K: Sink>(
-    alloc: Global,
+    means: Means,
     world: &mut World,
     disk: &mut D,
     sink: &mut K,
-    bound: u64,
-    number: u32,
+    place: Place,
     line: Line,
-    column: u32,
 ) -> Result<Option<Ending>, Cut>
     requires { IsInStep D.tells (D.view disk.old) world.old }
     ensures carried { MatchResult result
         (λ ending. (may_stop : Bool) → IsCalm may_stop (is_arm (machine_line line)) (D.counts disk.old)
-        → LineDone D.tells (heard may_stop (D.counts disk.old)) (heard may_stop (D.counts disk.new)) bound number (reads (machine_line line) column) (view_of world.old) (view_of world.new) ending (K.held sink.old) (K.held sink.new))
+        → LineDone D.tells (heard may_stop (D.counts disk.old)) (heard may_stop (D.counts disk.new)) means.bound place.number (reads (machine_line line) place.column) (view_of world.old) (view_of world.new) ending (K.held sink.old) (K.held sink.new))
         (λ cut. (may_stop : Bool) → IsCalm may_stop (is_arm (machine_line line)) (D.counts disk.old)
-        → LineCut D.tells (heard may_stop (D.counts disk.old)) (heard may_stop (D.counts disk.new)) (D.view disk.new) bound number (reads (machine_line line) column) (view_of world.old) cut (K.held sink.old) (K.held sink.new) (K.faults sink.old) (K.faults sink.new)) }
+        → LineCut D.tells (heard may_stop (D.counts disk.old)) (heard may_stop (D.counts disk.new)) (D.view disk.new) means.bound place.number (reads (machine_line line) place.column) (view_of world.old) cut (K.held sink.old) (K.held sink.new) (K.faults sink.old) (K.faults sink.new)) }
     ensures in_step { OnOk result (IsInStep D.tells (D.view disk.new) world.new) }
     ensures counts { IsLater (D.counts disk.old) (D.counts disk.new) ⊥ }
     ensures later { K.faults sink.old ≤ K.faults sink.new }
     ensures quiet { is_arm (machine_line line) ≡ false → IsSome (D.counts disk.new).armed → IsSome (D.counts disk.old).armed }
 {
-    let mut piece = Vec::new(alloc);
-    let carried = carry_out(alloc, world, disk, bound, number, line, &mut piece);
-    let ending = match line_end(carried, number, column) {
+    let mut piece = Vec::new(means.alloc);
+    let carried = carry_out(means, world, disk, place.number, line, &mut piece);
+    let ending = match line_end(carried, place.number, place.column) {
         Ok(ending) => ending,
         Err(cut) => return Err(cut),
     };
-    if let Err(cut) = write_lines(alloc, sink, &piece) {
+    if let Err(cut) = write_lines(means.alloc, sink, &piece) {
         return Err(cut);
     }
     if ending.is_some() {

@@ -13,6 +13,7 @@ ghost use Rattle.ec_drill.specs.Starts.{GivesScript, Withholds, RefusedWith, Tel
 ghost use Rattle.ec_protocol.specs.Drill.{bound as bound_over};
 ghost use Rattle.ec_drill.specs.Steps.{IsLater};
 
+use crate::carrying::Means;
 use crate::closing::close;
 use crate::limits::{MOST_BYTES, MOST_LINES};
 use crate::running::run;
@@ -192,7 +193,7 @@ fn drill_on<K: Sink, D: CrashDisk>(
     ensures drilled { (may_stop : Bool) → IsCalm may_stop (any_arm (map read_of lines.items)) (D.counts disk.old)
         → DrilledOn result D.tells (heard may_stop (D.counts disk.old)) (heard may_stop (D.counts disk.new)) (D.view disk.new) (map read_of lines.items) (view_of world.old) (K.held sink.old) (K.held sink.new) (K.faults sink.old) (K.faults sink.new) }
 {
-    let ending = match run(alloc, world, disk, sink, bound, lines) {
+    let ending = match run(Means { alloc, bound }, world, disk, sink, lines) {
         Ok(ending) => ending,
         Err(cut) => return status_of(cut),
     };

@@ -11,7 +11,7 @@ returns-in-Err-clause-carried g c = λ m calm.
     let old = g.D.Disk.counts c.args.disk.now in
     let new = g.D.Disk.counts c.begin.new.disk in
     let s = c.in-Err.ensures.begun in
-    line_stops g.D.Disk.tells (g.D.Disk.view c.begin.new.disk) (heard m old) (heard m new) c.args.bound c.args.number (machine_line c.args.line) (view_of c.args.world.now) (view_of c.begin.new.world)
+    line_stops g.D.Disk.tells (g.D.Disk.view c.begin.new.disk) (heard m old) (heard m new) c.args.means.bound c.args.number (machine_line c.args.line) (view_of c.args.world.now) (view_of c.begin.new.world)
     c.begin.new.piece.items c.in-Err.fault s.0 (heard_later m old new c.in-Err.ensures.counts.stops) (heard_fate m s.0 old new (λ e. (calm e).1) s.1) s.2 s.3
 
 pub returns-clause-carried : goal.returns-clause-carried
@@ -21,7 +21,7 @@ returns-clause-carried g c = λ m calm.
     let new = g.D.Disk.counts c.settle.new.disk in
     let s = c.in_default.ensures.begun in
     let t = c.settle.ensures.settled m (λ e. (refl, still_none old.armed mid.armed (c.in_default.ensures.quiet (calm e).0) (calm e).1)) in
-    line_settles g.D.Disk.tells (g.D.Disk.view c.settle.new.disk) (heard m old) (heard m mid) (heard m new) c.args.bound c.args.number (machine_line c.args.line)
+    line_settles g.D.Disk.tells (g.D.Disk.view c.settle.new.disk) (heard m old) (heard m mid) (heard m new) c.args.means.bound c.args.number (machine_line c.args.line)
     (view_of c.args.world.now) (view_of c.begin.new.world) (view_of c.settle.new.world) c.begin.new.piece.items c.settle.new.piece.items c.settle.result s.0 t.0
     (heard_later m old mid c.in_default.ensures.counts.stops) (heard_later m mid new c.settle.ensures.counts.stops) (heard_fate m s.0 old mid (λ e. (calm e).1) s.1) s.2 t.1 t.2 t.3 s.4 t.4
 

@@ -13,5 +13,5 @@ returns-in-Unfit-clause-carried g c = λ m calm.
     let counts = heard m (g.D.Disk.counts c.args.disk.now) in
     let world = view_of c.args.world.now in
     let held = g.K.Sink.held c.args.sink.now in
-    subst (λ (line : ScriptLine). LineDone g.D.Disk.tells counts counts c.args.bound c.args.number (read_of line) world world (Some (BadLine c.args.number c.in-Unfit.column)) held held) (sym c.in-Unfit.is)
-    (line_unfit g.D.Disk.tells counts c.args.bound c.args.number c.in-Unfit.column world held)
+    subst (λ (line : ScriptLine). LineDone g.D.Disk.tells counts counts c.args.means.bound c.args.number (read_of line) world world (Some (BadLine c.args.number c.in-Unfit.column)) held held) (sym c.in-Unfit.is)
+    (line_unfit g.D.Disk.tells counts c.args.means.bound c.args.number c.in-Unfit.column world held)

@@ -20,8 +20,8 @@ lines-init g c =
     let held = g.K.Sink.held c.args.sink.now in
     let all = map read_of c.args.lines.items in (
       λ m calm. (
-        subst (λ (ls : List ScriptLine). Sofar g.D.Disk.tells (heard m counts).stops (heard m counts).stops c.args.bound counts.armed counts.armed all start 1 (map read_of ls) start held held) (sym c.into_iter-ahead.ensures.rest)
-            (sofar g.D.Disk.tells (heard m counts).stops c.args.bound counts.armed all start held),
+        subst (λ (ls : List ScriptLine). Sofar g.D.Disk.tells (heard m counts).stops (heard m counts).stops c.args.means.bound counts.armed counts.armed all start 1 (map read_of ls) start held held) (sym c.into_iter-ahead.ensures.rest)
+            (sofar g.D.Disk.tells (heard m counts).stops c.args.means.bound counts.armed all start held),
         subst (λ (ls : List ScriptLine). IsCalm m (any_arm (map read_of ls)) counts) (sym c.into_iter-ahead.ensures.rest) calm,
       ),
       c.requires.in_step,
@@ -49,10 +49,10 @@ lines-preserved g c =
           let so = c.lines.invariant.0 m calm in
           let still = subst (λ (ls : List ScriptLine). IsCalm m (any_arm (map read_of ls)) old) c.in-Some.ensures.items so.1 in
           let rest = map read_of (into_iter_items c.next.new.self) in (
-            goes_on tells (heard m first).stops (heard m old).stops (heard m old) (heard m new) c.args.bound first.armed all start c.lines.number (read_of line) rest world begun held written
-                (subst (λ (ls : List ScriptLine). Sofar tells (heard m first).stops (heard m old).stops c.args.bound first.armed old.armed all start c.lines.number (map read_of ls) world begun held) c.in-Some.ensures.items so.0)
+            goes_on tells (heard m first).stops (heard m old).stops (heard m old) (heard m new) c.args.means.bound first.armed all start c.lines.number (read_of line) rest world begun held written
+                (subst (λ (ls : List ScriptLine). Sofar tells (heard m first).stops (heard m old).stops c.args.means.bound first.armed old.armed all start c.lines.number (map read_of ls) world begun held) c.in-Some.ensures.items so.0)
                 refl (heard_later m first old c.lines.invariant.2.stops) (heard_later m old new did.counts.stops) now
-                (subst (λ (e : Option Ending). LineDone tells (heard m old) (heard m new) c.args.bound c.lines.number (read_of line) world now e held written) c.in-Ok-None.field-0-is
+                (subst (λ (e : Option Ending). LineDone tells (heard m old) (heard m new) c.args.means.bound c.lines.number (read_of line) world now e held written) c.in-Ok-None.field-0-is
                 (did.carried m (calm_now m (is_arm_read (read_of line)) (any_arm rest) old still))),
             calm_on m (is_arm_read (read_of line)) (any_arm rest) old new did.quiet still,
           ),
@@ -79,10 +79,10 @@ returns-in-Ok-Some-clause-ran g c = λ m calm.
     let line = c.in-Some.line in
     let so = c.lines.invariant.0 m calm in
     let still = subst (λ (ls : List ScriptLine). IsCalm m (any_arm (map read_of ls)) old) c.in-Some.ensures.items so.1 in
-    ends_at tells (heard m first).stops (heard m old).stops (heard m old) (heard m new) c.args.bound first.armed all start c.lines.number (read_of line) (map read_of (into_iter_items c.next.new.self)) world begun held written
-    (subst (λ (ls : List ScriptLine). Sofar tells (heard m first).stops (heard m old).stops c.args.bound first.armed old.armed all start c.lines.number (map read_of ls) world begun held) c.in-Some.ensures.items so.0)
+    ends_at tells (heard m first).stops (heard m old).stops (heard m old) (heard m new) c.args.means.bound first.armed all start c.lines.number (read_of line) (map read_of (into_iter_items c.next.new.self)) world begun held written
+    (subst (λ (ls : List ScriptLine). Sofar tells (heard m first).stops (heard m old).stops c.args.means.bound first.armed old.armed all start c.lines.number (map read_of ls) world begun held) c.in-Some.ensures.items so.0)
     refl (heard_later m first old c.lines.invariant.2.stops) (heard_later m old new did.counts.stops) now c.in-Ok-Some.ending
-    (subst (λ (e : Option Ending). LineDone tells (heard m old) (heard m new) c.args.bound c.lines.number (read_of line) world now e held written) c.in-Ok-Some.field-0-is
+    (subst (λ (e : Option Ending). LineDone tells (heard m old) (heard m new) c.args.means.bound c.lines.number (read_of line) world now e held written) c.in-Ok-Some.field-0-is
     (did.carried m (calm_now m (is_arm_read (read_of line)) (any_arm (map read_of (into_iter_items c.next.new.self))) old still)))
 
 pub returns-in-Err-clause-ran : goal.returns-in-Err-clause-ran
@@ -104,8 +104,8 @@ returns-in-Err-clause-ran g c = λ m calm.
     let writes_after = g.K.Sink.faults c.carry.new.sink in
     let so = c.lines.invariant.0 m calm in
     let still = subst (λ (ls : List ScriptLine). IsCalm m (any_arm (map read_of ls)) old) c.in-Some.ensures.items so.1 in
-    cut_at tells (heard m first).stops (heard m old).stops (heard m old) (heard m new) c.args.bound first.armed all start c.lines.number (read_of line) (map read_of (into_iter_items c.next.new.self)) world begun held written
-    (subst (λ (ls : List ScriptLine). Sofar tells (heard m first).stops (heard m old).stops c.args.bound first.armed old.armed all start c.lines.number (map read_of ls) world begun held) c.in-Some.ensures.items so.0)
+    cut_at tells (heard m first).stops (heard m old).stops (heard m old) (heard m new) c.args.means.bound first.armed all start c.lines.number (read_of line) (map read_of (into_iter_items c.next.new.self)) world begun held written
+    (subst (λ (ls : List ScriptLine). Sofar tells (heard m first).stops (heard m old).stops c.args.means.bound first.armed old.armed all start c.lines.number (map read_of ls) world begun held) c.in-Some.ensures.items so.0)
     refl (heard_later m first old c.lines.invariant.2.stops) (heard_later m old new did.counts.stops) (g.D.Disk.view c.carry.new.disk) c.in-Err.cut writes writes_now writes_after first.faults (did.carried m (calm_now m (is_arm_read (read_of line)) (any_arm (map read_of (into_iter_items c.next.new.self))) old still))
     (λ last. cause_from c.in-Err.cut last writes writes_now writes_after first.faults old.faults new.faults c.lines.invariant.3 c.lines.invariant.2.faults)
 
@@ -119,6 +119,6 @@ returns-clause-ran g c = λ m calm.
     let begun = g.K.Sink.held c.args.sink.now in
     let held = g.K.Sink.held c.lines.sink in
     let all = map read_of c.args.lines.items in
-    ends_done tells (heard m first).stops (heard m old).stops c.args.bound first.armed old.armed all start c.lines.number world begun held
-    (subst (λ (ls : List ScriptLine). Sofar tells (heard m first).stops (heard m old).stops c.args.bound first.armed old.armed all start c.lines.number (map read_of ls) world begun held)
+    ends_done tells (heard m first).stops (heard m old).stops c.args.means.bound first.armed old.armed all start c.lines.number world begun held
+    (subst (λ (ls : List ScriptLine). Sofar tells (heard m first).stops (heard m old).stops c.args.means.bound first.armed old.armed all start c.lines.number (map read_of ls) world begun held)
     (no_more (into_iter_items c.lines.ahead) (into_iter_len c.lines.ahead) c.lines.ahead.rest.ok.0 c.in_default.ensures.cases.0) (c.lines.invariant.0 m calm).0)
