@@ -64,6 +64,13 @@ fn send_one<L: Link, R: Wait + Clock>(rt: &R, alloc: Global, link: &mut L, msg: 
     }
 }
 
+// Who is refused, and why.
+#[derive(Drop)]
+struct Refused<'a> {
+    caller: &'a Caller,
+    refusal: Refusal,
+}
+
 impl<K: Keeper + Drop> Node<K> {
     // Whether a turn may do anything.
     fn check(&self) -> Result<(), ServeFault>
@@ -247,7 +254,7 @@ impl<K: Keeper + Drop> Node<K> {
     {
         self.check()?;
         match caller.refusal {
-            Some(refusal) => self.refuse(rt, alloc, pass, caller, refusal, link),
+            Some(refusal) => self.refuse(rt, alloc, pass, Refused { caller, refusal }, link),
             None => self.give_own(rt, alloc, pass, caller, link),
         }
     }
@@ -258,20 +265,19 @@ impl<K: Keeper + Drop> Node<K> {
         rt: &R,
         alloc: Global,
         pass: u64,
-        caller: &Caller,
-        refusal: Refusal,
+        to: Refused<'_>,
         link: &mut L,
     ) -> Result<Turned, ServeFault>
-        requires caller { caller.now ≡ caller_by pass self.old.trace.items }
-        requires refusal { caller.now.refusal ≡ Some refusal }
+        requires caller { to.caller.now ≡ caller_by pass self.old.trace.items }
+        requires refusal { to.caller.now.refusal ≡ Some to.refusal }
         requires up { (self.old.halt ≡ None) × (self.old.broken ≡ false) × (self.old.steps < last_counter) }
         ensures keeps { Keeps K.kept K.counts K.did K.broke self.old self.new }
-        ensures gives { Gives L.faults L.got pass caller.now self.old self.new link.old link.new result }
-        ensures caller { caller_by pass self.new.trace.items ≡ told_by result caller.now }
+        ensures gives { Gives L.faults L.got pass to.entry.caller.now self.old self.new link.old link.new result }
+        ensures caller { caller_by pass self.new.trace.items ≡ told_by result to.entry.caller.now }
         ensures given { (L.given link.new ≡ L.given link.old) × (L.held link.new ≡ L.held link.old) }
         ensures counts { (L.faults link.old ≤ L.faults link.new) × (L.closes link.old ≤ L.closes link.new) }
     {
-        let msg = Msg::OldBoot(refusal.asked, refusal.greatest);
+        let msg = Msg::OldBoot(to.refusal.asked, to.refusal.greatest);
         match send_one(rt, alloc, link, &msg) {
             Sent::Done => {
                 self.add(Step {

@@ -18,7 +18,7 @@ returns-in-Done-clause-keeps g c first s =
 pub returns-in-Done-clause-gives : goal.returns-in-Done-clause-gives
 returns-in-Done-clause-gives g c =
     let x : Step = record { pass = c.args.pass; deed = Refused c.of.result } in
-    (x, msg_of c.args.refusal, (c.add.ensures.list, (refl, tt)), (subst (λ o. IsRefusal o (msg_of c.args.refusal)) (sym c.requires.refusal) refl, c.of.ensures), c.in-Done.ensures.got, ap (λ n. n.halt) c.add.ensures.others ∙ c.requires.up.0)
+    (x, msg_of c.args.to.refusal, (c.add.ensures.list, (refl, tt)), (subst (λ o. IsRefusal o (msg_of c.args.to.refusal)) (sym c.requires.refusal) refl, c.of.ensures), c.in-Done.ensures.got, ap (λ n. n.halt) c.add.ensures.others ∙ c.requires.up.0)
 
 pub returns-in-Done-clause-caller : goal.returns-in-Done-clause-caller
 returns-in-Done-clause-caller g c =
@@ -33,7 +33,7 @@ returns-in-Failed-clause-keeps g c first s = s
 
 pub returns-in-Failed-clause-gives : goal.returns-in-Failed-clause-gives
 returns-in-Failed-clause-gives g c = (
-  (no_more c.args.pass c.args.self.now c.args.self.now refl, c.in-Failed.ensures.faults, c.requires.up.0, c.requires.up.1, inl (c.args.refusal, c.requires.refusal)),
+  (no_more c.args.pass c.args.self.now c.args.self.now refl, c.in-Failed.ensures.faults, c.requires.up.0, c.requires.up.1, inl (c.args.to.refusal, c.requires.refusal)),
   c.in-Failed.ensures.got ∙ added-nil _,
 )
 
