@@ -32,6 +32,13 @@ pub enum Came<T: Drop> {
     NoMemory,
 }
 
+/// A message, and the clerk that sent it.
+#[derive(Drop)]
+pub struct Letter<'a> {
+    pub from: ClerkId,
+    pub msg: &'a Msg,
+}
+
 /// Takes a sound message of a clerk. A counter that the step would spend changes nothing.
 pub fn take<D: Disk>(
     alloc: Global,
@@ -39,14 +46,13 @@ pub fn take<D: Disk>(
     disk: &mut D,
     records: &Trace<Record>,
     server: &mut Server,
-    from: ClerkId,
-    msg: &Msg,
+    letter: Letter<'_>,
 ) -> Result<Came<Served>, Counter>
-    requires sound { IsTrue (is_sound msg.now) }
+    requires sound { IsTrue (is_sound letter.msg.now) }
     requires stands { StandsOn (view_of store.old) server.old }
     requires held { D.tells → IsHeld (D.view disk.old) store.old }
-    ensures came { let d = view_of store.old in let done = machine.take from msg.now (standing d server.old) in IfOk result (CameOf (IsDone D.tells done d records.now.items server.new store.new (D.view disk.new)) D.tells done d records.now.items (D.view disk.new)) }
-    ensures spent { let done = machine.take from msg.now (standing (view_of store.old) server.old) in IfErr result (λ n. Unchanged D.tells done n store.old store.new (D.view disk.new)) }
+    ensures came { let d = view_of store.old in let done = machine.take letter.entry.from letter.entry.msg.now (standing d server.old) in IfOk result (CameOf (IsDone D.tells done d records.now.items server.new store.new (D.view disk.new)) D.tells done d records.now.items (D.view disk.new)) }
+    ensures spent { let done = machine.take letter.entry.from letter.entry.msg.now (standing (view_of store.old) server.old) in IfErr result (λ n. Unchanged D.tells done n store.old store.new (D.view disk.new)) }
     ensures same { IfErr result (λ n. standing (view_of store.new) server.new ≡ standing (view_of store.old) server.old) }
     ensures stands { StandsOn (view_of store.new) server.new }
     ensures counts { Counted (D.counts disk.old) (D.counts disk.new) (result ≡ Ok came.DiskFailed) (IsStop result) }
@@ -62,7 +68,7 @@ pub fn take<D: Disk>(
         records,
         marks: &mut marks,
     };
-    take_by(&mut keeper, server, from, msg)
+    take_by(&mut keeper, server, letter.from, letter.msg)
 }
 
 // The same, by a keeper over the store and the disk that are lent.

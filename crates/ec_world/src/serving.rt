@@ -22,6 +22,7 @@ use ec_base::{ClerkId, NoMemory};
 use ec_clerk::running::StepFault;
 use ec_disk::CrashDisk;
 use ec_history::Shown;
+use ec_marking::keeping::Letter;
 use ec_marking::{Came, Mark, keeping};
 use ec_protocol::Served;
 use std::alloc::Global;
@@ -49,15 +50,11 @@ impl World {
         let Some(server) = &mut self.server else {
             return Ok(self.show_nothing(alloc)?);
         };
-        let taken = keeping::take(
-            alloc,
-            &mut self.store,
-            disk,
-            &self.records,
-            server,
-            sent.clerk,
-            &sent.msg,
-        );
+        let letter = Letter {
+            from: sent.clerk,
+            msg: &sent.msg,
+        };
+        let taken = keeping::take(alloc, &mut self.store, disk, &self.records, server, letter);
         match taken {
             Ok(came) => {
                 self.pool.settle(number);

@@ -15,7 +15,7 @@ returns-clause-came g c =
     let before = c.args.records.now.items in
     let l = c.take_by.new.keeper in
     moved
-    (λ (o s : Store) (x : g.row.D.Denot). IfOk c.take_by.result (CameOf (IsDone tells (machine.take c.args.from c.args.msg.now (standing (view_of o) c.args.server.now)) (view_of o) before c.take_by.new.server s (view x)) tells (machine.take c.args.from c.args.msg.now (standing (view_of o) c.args.server.now)) (view_of o) before (view x)))
+    (λ (o s : Store) (x : g.row.D.Denot). IfOk c.take_by.result (CameOf (IsDone tells (machine.take c.args.letter.from c.args.letter.msg.now (standing (view_of o) c.args.server.now)) (view_of o) before c.take_by.new.server s (view x)) tells (machine.take c.args.letter.from c.args.letter.msg.now (standing (view_of o) c.args.server.now)) (view_of o) before (view x)))
     c.new-2.result.store.now l.keeper.store.now l.keeper.disk.now c.args.store.now c.store-1.given.0 c.disk-1.given.0
     c.take_by.ensures.came
     (search rules) (search rules) (search rules)
@@ -26,7 +26,7 @@ returns-clause-spent g c =
     let view = g.D.Disk.view in
     let l = c.take_by.new.keeper in
     moved
-    (λ (o s : Store) (x : g.row.D.Denot). IfErr c.take_by.result (λ n. Unchanged tells (machine.take c.args.from c.args.msg.now (standing (view_of o) c.args.server.now)) n o s (view x)))
+    (λ (o s : Store) (x : g.row.D.Denot). IfErr c.take_by.result (λ n. Unchanged tells (machine.take c.args.letter.from c.args.letter.msg.now (standing (view_of o) c.args.server.now)) n o s (view x)))
     c.new-2.result.store.now l.keeper.store.now l.keeper.disk.now _ _ _
     c.take_by.ensures.spent
     (search rules) (search rules) (search rules)
