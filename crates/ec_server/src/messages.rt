@@ -15,6 +15,7 @@ use crate::state::{Core, epoch};
 use ec_admission::session_part;
 use ec_base::{ClerkId, Hold, ObjId, SessionNo};
 use ec_sessions::Window;
+use ec_sessions::tokens::Token;
 use ec_wire::Msg;
 
 // What becomes of a message by its session and epoch.
@@ -99,7 +100,11 @@ impl Core {
     {
         match msg {
             Msg::Want(session, _, obj, hold, last) => {
-                self.want(keeper, clerk, *session, *obj, *hold, *last)?;
+                let wanted = Token {
+                    hold: *hold,
+                    number: *last,
+                };
+                self.want(keeper, clerk, *session, *obj, wanted)?;
                 Ok(())
             }
             Msg::Back(session, _, obj, number, to) => {

@@ -15,7 +15,7 @@ use crate::fault::ServerFault;
 use crate::keeper::Keeper;
 use crate::state::{Core, epoch};
 use ec_base::{ClerkId, Hold, NoMemory, ObjId, SessionNo};
-use ec_sessions::tokens::ClaimFault;
+use ec_sessions::tokens::{ClaimFault, Token};
 use ec_volume::SharedImage;
 use ec_wire::Msg;
 
@@ -34,12 +34,12 @@ impl Core {
         clerk: ClerkId,
         session: SessionNo,
         obj: ObjId,
-        hold: Hold,
-        number: u64,
+        token: Token,
     ) -> Result<(), NoMemory>
-        ensures does { OnOk result (machine.send_grant clerk session obj hold number (under (K.kept keeper.now) self.old) ≡ under (K.kept keeper.now) self.new) }
+        ensures does { OnOk result (machine.send_grant clerk session obj token.hold token.number (under (K.kept keeper.now) self.old) ≡ under (K.kept keeper.now) self.new) }
         ensures rec { OnOk result (self.new.rec ≡ self.old.rec) }
     {
+        let Token { hold, number } = token;
         let image = image(keeper, obj)?;
         let grant = Msg::Grant(session, epoch(keeper), obj, number, hold, image);
         self.tell(clerk, grant)?;
@@ -54,26 +54,27 @@ impl Core {
         self.recalls.want(session, obj, hold)
     }
 
-    // A token above the clerk's last one is sent again; else the want is noted.
+    // This mode is wanted, and the clerk's last token had this number. A token above that is sent again; else the want is noted.
     pub(crate) fn want<K: Keeper>(
         &mut self,
         keeper: &K,
         clerk: ClerkId,
         session: SessionNo,
         obj: ObjId,
-        hold: Hold,
-        last: u64,
+        wanted: Token,
     ) -> Result<(), NoMemory>
-        requires { hold ≢ Hold.Free }
-        ensures does { OnOk result (machine.want clerk session obj hold last (under (K.kept keeper.now) self.old) ≡ under (K.kept keeper.now) self.new) }
+        requires { wanted.hold ≢ Hold.Free }
+        ensures does { OnOk result (machine.want clerk session obj wanted.hold wanted.number (under (K.kept keeper.now) self.old) ≡ under (K.kept keeper.now) self.new) }
         ensures rec { OnOk result (self.new.rec ≡ self.old.rec) }
     {
+        let Token { hold, number: last } = wanted;
         let Some((held, number)) = self.tokens.token(session, obj) else {
             self.note(session, obj, hold)?;
             return Ok(());
         };
         if last < number {
-            self.send_grant(keeper, clerk, session, obj, held, number)?;
+            let token = Token { hold: held, number };
+            self.send_grant(keeper, clerk, session, obj, token)?;
         } else {
             self.note(session, obj, hold)?;
         }

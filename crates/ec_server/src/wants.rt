@@ -17,7 +17,7 @@ use crate::state::{Core, epoch};
 use ec_admission::{all_claimed, clerk_in};
 use ec_base::{ClerkId, Hold, NoMemory, ObjId, SessionNo};
 use ec_sessions::recall::Action;
-use ec_sessions::tokens::Tokens;
+use ec_sessions::tokens::{Token, Tokens};
 use ec_wire::Msg;
 
 // The clerk whose session this is.
@@ -128,7 +128,7 @@ impl Core {
         let number = self.next_number()?;
         self.tokens.grant(session, obj, hold, number)?;
         let clerk = clerk_of(keeper, session);
-        self.send_grant(keeper, clerk, session, obj, hold, number)?;
+        self.send_grant(keeper, clerk, session, obj, Token { hold, number })?;
         Ok(())
     }
 
