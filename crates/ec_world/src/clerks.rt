@@ -17,6 +17,15 @@ use ec_plain::Call;
 use ec_protocol::Out;
 use std::alloc::Global;
 
+// A call that a clerk began: by this number, as this line asks.
+#[derive(Drop)]
+struct Asked<'a> {
+    clerk: ClerkId,
+    no: u64,
+    line: u32,
+    call: &'a Call,
+}
+
 impl World {
     pub(crate) fn call(
         &mut self,
@@ -54,7 +63,13 @@ impl World {
         match running::begin(&mut self.clerks, clerk, call)? {
             Begun::Took(no, outs) => {
                 let before = Vec::new(alloc);
-                Ok(self.show_begun(alloc, clerk, no, line, text, before, outs)?)
+                let begun = Asked {
+                    clerk,
+                    no,
+                    line,
+                    call: text,
+                };
+                Ok(self.show_begun(alloc, &begun, before, outs)?)
             }
             Begun::IsAbsent(call) => self.start_and_call(alloc, clerk, line, text, call),
         }
@@ -81,46 +96,49 @@ impl World {
         };
         let (no, before, outs) = running::start(alloc, &mut self.clerks, clerk, boot, call)?;
         self.boots.insert(clerk, boot)?;
-        Ok(self.show_begun(alloc, clerk, no, line, text, before, outs)?)
+        let begun = Asked {
+            clerk,
+            no,
+            line,
+            call: text,
+        };
+        Ok(self.show_begun(alloc, &begun, before, outs)?)
     }
 
     // What a clerk's call shows once it has begun. What came out of the clerk's start stands before.
     fn show_begun(
         &mut self,
         alloc: Global,
-        clerk: ClerkId,
-        no: u64,
-        line: u32,
-        call: &Call,
+        asked: &Asked<'_>,
         before: Vec<Out>,
         outs: Vec<Out>,
     ) -> Result<(), NoMemory>
-        ensures ok { OnOk result (under self.new ≡ call_begun clerk no line call.now before.items outs.items (under self.old)) }
+        ensures ok { OnOk result (under self.new ≡ call_begun asked.now.clerk asked.now.no asked.now.line asked.now.call.now before.items outs.items (under self.old)) }
         ensures same { KeepsServer self.old self.new }
     {
-        add_copy(alloc, &mut self.calls, clerk, no, line, call)?;
-        self.show_waits(alloc, clerk, no, line, call, &outs)?;
+        let clerk = asked.clerk;
+        add_copy(
+            alloc,
+            &mut self.calls,
+            clerk,
+            asked.no,
+            asked.line,
+            asked.call,
+        )?;
+        self.show_waits(alloc, asked, &outs)?;
         self.come_out(alloc, clerk, before)?;
         self.come_out(alloc, clerk, outs)
     }
 
     // A call that isn't answered in its own step waits.
-    fn show_waits(
-        &mut self,
-        alloc: Global,
-        clerk: ClerkId,
-        no: u64,
-        line: u32,
-        call: &Call,
-        outs: &[Out],
-    ) -> Result<(), NoMemory>
-        ensures ok { OnOk result (under self.new ≡ machine.show_waits clerk no line call.now outs.now (under self.old)) }
+    fn show_waits(&mut self, alloc: Global, asked: &Asked<'_>, outs: &[Out]) -> Result<(), NoMemory>
+        ensures ok { OnOk result (under self.new ≡ machine.show_waits asked.now.clerk asked.now.no asked.now.line asked.now.call.now outs.now (under self.old)) }
         ensures same { KeepsServer self.old self.new }
     {
-        if is_answered(no, outs) {
+        if is_answered(asked.no, outs) {
             return Ok(());
         }
-        let waits = Shown::Waits(line, clerk, call.duplicate()?);
+        let waits = Shown::Waits(asked.line, asked.clerk, asked.call.duplicate()?);
         self.show_line(alloc, waits)
     }
 
