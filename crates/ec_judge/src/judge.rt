@@ -11,14 +11,15 @@ ghost use Rattle.ec_history.specs.declared.entry.Entry.TheVariants as entry;
 ghost use Rattle.ec_judge.specs.Carried.{Carries, EntryIsReady, IsWhole, Judges, ops_of};
 
 use crate::carried::{Issuer, Judge};
+use crate::losses::Named;
 use crate::starts::Starts;
 use crate::{covers, losses, rebuilt, starts, tail, touches};
 use ec_base::{ClerkId, NoMemory, ObjId, OpNo};
-use ec_history::{Answer, Entry, Rule};
+use ec_history::{Entry, Rule};
 use ec_order::numbers::Numbers;
 use ec_order::objtable::ObjTable;
-use ec_pending::owes::broken_rule;
-use ec_plain::{Call, Outcome, plain};
+use ec_pending::owes::{Answered, broken_rule};
+use ec_plain::{Outcome, plain};
 use std::alloc::Global;
 
 impl Judge {
@@ -63,7 +64,8 @@ impl Judge {
                     place,
                     turn,
                 };
-                self.judge_call(most, &issuer, *begun, call, answer, op)
+                let answered = Answered { call, answer, op };
+                self.judge_call(most, &issuer, *begun, &answered)
             }
             Entry::Loss { clerk, boot, ops } => self.judge_loss(*clerk, *boot, ops.as_slice()),
         }
@@ -75,37 +77,35 @@ impl Judge {
         most: u32,
         issuer: &Issuer,
         begun: u32,
-        call: &Call,
-        answer: &Answer,
-        op: &Option<OpNo>,
+        answered: &Answered<'_>,
     ) -> Result<Option<Rule>, NoMemory>
         requires place { issuer.now.place < 2 ^ 31 }
-        requires ready { (l : ℕ) → EntryIsReady self.old (issuer.now.place, entry.Call issuer.now.clerk issuer.now.boot l begun call.now answer.now op.now) }
-        ensures { IfOk result (λ found. (l : ℕ) → Judges most issuer.now.turn self.old self.new (issuer.now.place, entry.Call issuer.now.clerk issuer.now.boot l begun call.now answer.now op.now) found) }
+        requires ready { (l : ℕ) → EntryIsReady self.old (issuer.now.place, entry.Call issuer.now.clerk issuer.now.boot l begun answered.now.call.now answered.now.answer.now answered.now.op.now) }
+        ensures { IfOk result (λ found. (l : ℕ) → Judges most issuer.now.turn self.old self.new (issuer.now.place, entry.Call issuer.now.clerk issuer.now.boot l begun answered.now.call.now answered.now.answer.now answered.now.op.now) found) }
     {
         let Some(fresh) = ObjId::new(issuer.place + 1) else {
             unreachable!();
         };
         let at = self.starts.index_of(issuer.clerk, issuer.boot)?;
-        let outcome = plain(self.alloc, &self.firm.volume, call, fresh)?;
+        let outcome = plain(self.alloc, &self.firm.volume, answered.call, fresh)?;
         let start = self.starts.at(at);
         let count = start.pending.count();
-        if let Some(rule) = broken_rule(most, count, &start.owed, call, &outcome, answer, op)? {
+        if let Some(rule) = broken_rule(most, count, &start.owed, answered, &outcome)? {
             drop(outcome);
             return Ok(Some(rule));
         }
         let touched = outcome.touched.as_slice();
-        let asked = covers::wanted(begun, call, touched, answer);
+        let asked = covers::wanted(begun, answered.call, touched, answered.answer);
         touches::touch_all(&mut self.touches, issuer.clerk, issuer.turn, touched)?;
         let place = issuer.place;
-        self.starts.note_at(at, &asked, place, op, call, &outcome)?;
+        self.starts.note_at(at, &asked, place, answered, &outcome)?;
         let Outcome { update, .. } = outcome;
         starts::keep(
             self.alloc,
             &mut self.firm.volume,
             &mut self.kept,
             issuer,
-            op,
+            answered.op,
             update,
         )?;
         Ok(None)
@@ -124,43 +124,35 @@ impl Judge {
         ensures { IfOk result (λ found. (most turn p : ℕ) → Judges most turn self.old self.new (p, entry.Loss clerk boot ops.now) found) }
     {
         let ops = Numbers::of(self.alloc, Vec::from_slice(self.alloc, ops)?)?;
-        self.judge_lost(clerk, boot, &ops)
+        let named = Named {
+            clerk,
+            boot,
+            ops: &ops,
+        };
+        self.judge_lost(&named)
     }
 
     // The same, by an index of the lost operations.
     #[inline(never)]
-    fn judge_lost(
-        &mut self,
-        clerk: ClerkId,
-        boot: u64,
-        ops: &Numbers,
-    ) -> Result<Option<Rule>, NoMemory>
+    fn judge_lost(&mut self, named: &Named<'_>) -> Result<Option<Rule>, NoMemory>
         requires sound { T (list_all is_sound (updates (ops_of self.old.kept.items))) }
         requires whole { IsWhole self.old }
-        requires rising { T (is_sorted nat_cmp (of_issue clerk boot (ops_of self.old.kept.items))) }
-        ensures { IfOk result (λ found. (most turn p : ℕ) → Judges most turn self.old self.new (p, entry.Loss clerk boot ops.now) found) }
+        requires rising { T (is_sorted nat_cmp (of_issue named.now.clerk named.now.boot (ops_of self.old.kept.items))) }
+        ensures { IfOk result (λ found. (most turn p : ℕ) → Judges most turn self.old self.new (p, entry.Loss named.now.clerk named.now.boot named.now.ops.now) found) }
     {
-        let at = self.starts.index_of(clerk, boot)?;
-        let from = tail::first_of(&self.kept, clerk, boot, ops);
+        let at = self.starts.index_of(named.clerk, named.boot)?;
+        let from = tail::first_of(&self.kept, named);
         let broken = self
             .starts
-            .broken_at(&self.touches, at, &self.kept, from, clerk, boot, ops)?;
+            .broken_at(&self.touches, at, &self.kept, from, named)?;
         if let Some(rule) = broken {
             return Ok(Some(rule));
         }
-        if !rebuilt::leave(
-            self.alloc,
-            &mut self.firm,
-            &self.kept,
-            from,
-            clerk,
-            boot,
-            ops,
-        )? {
+        if !rebuilt::leave(self.alloc, &mut self.firm, &self.kept, from, named)? {
             return Ok(Some(Rule::Fits));
         }
-        self.starts.owe_at(at, &self.kept, from, clerk, boot, ops)?;
-        losses::forget(self.alloc, &mut self.kept, from, clerk, boot, ops)?;
+        self.starts.owe_at(at, &self.kept, from, named)?;
+        losses::forget(self.alloc, &mut self.kept, from, named)?;
         Ok(None)
     }
 }

@@ -20,38 +20,35 @@ use ec_pending::owes::Owes;
 use ec_volume::operands;
 use std::alloc::Global;
 
+/// What a loss names: operations of a start.
+#[derive(Clone, Copy, Drop)]
+pub struct Named<'a> {
+    pub clerk: ClerkId,
+    pub boot: u64,
+    pub ops: &'a Numbers,
+}
+
 /// The first rule that a loss of these operations of the start at this index breaks, but for what is
 /// left of the others. None of them is kept before the index `from`.
 #[inline(never)]
 pub fn broken_at(
-    alloc: Global,
     touches: &ObjTable<Touches>,
     starts: &mut Vec<Start>,
     at: usize,
     kept: &[Kept],
     from: usize,
-    clerk: ClerkId,
-    boot: u64,
-    ops: &Numbers,
+    named: &Named<'_>,
 ) -> Result<Option<Rule>, NoMemory>
     requires at { at < length starts.old.items }
     requires within { from ≤ length kept.now }
-    requires none { list_any (is_among clerk boot ops.now) (take from kept.now) ≡ false }
-    ensures found { IfOk result (λ found. (s : StartOf) × (s ≡ slice_index_or starts.old.items at s) × MatchOption found (KeepsMarks clerk boot ops.now (numbers_in s.pending.1) (touches_in touches.now) kept.now)
-        (λ rule. BreaksMarks clerk boot ops.now (numbers_in s.pending.1) (touches_in touches.now) kept.now rule)) }
+    requires none { list_any (is_among named.now.clerk named.now.boot named.now.ops.now) (take from kept.now) ≡ false }
+    ensures found { IfOk result (λ found. (s : StartOf) × (s ≡ slice_index_or starts.old.items at s) × MatchOption found (KeepsMarks named.now.clerk named.now.boot named.now.ops.now (numbers_in s.pending.1) (touches_in touches.now) kept.now)
+        (λ rule. BreaksMarks named.now.clerk named.now.boot named.now.ops.now (numbers_in s.pending.1) (touches_in touches.now) kept.now rule)) }
     ensures unchanged { OnOk result (starts.new.items ≡ starts.old.items) }
     ensures same { SamePlaces starts.old.items starts.new.items }
 {
-    broken(
-        alloc,
-        touches,
-        &mut starts[at],
-        kept,
-        from,
-        clerk,
-        boot,
-        ops,
-    )
+    let alloc = *starts.allocator();
+    broken(alloc, touches, &mut starts[at], kept, from, named)
 }
 
 // The same of this start.
@@ -61,19 +58,17 @@ fn broken(
     start: &mut Start,
     kept: &[Kept],
     from: usize,
-    clerk: ClerkId,
-    boot: u64,
-    ops: &Numbers,
+    named: &Named<'_>,
 ) -> Result<Option<Rule>, NoMemory>
     requires within { from ≤ length kept.now }
-    requires none { list_any (is_among clerk boot ops.now) (take from kept.now) ≡ false }
-    ensures found { IfOk result (λ found. MatchOption found (KeepsMarks clerk boot ops.now (numbers_in start.old.pending.1) (touches_in touches.now) kept.now) (λ rule. BreaksMarks clerk boot ops.now (numbers_in start.old.pending.1) (touches_in touches.now) kept.now rule)) }
+    requires none { list_any (is_among named.now.clerk named.now.boot named.now.ops.now) (take from kept.now) ≡ false }
+    ensures found { IfOk result (λ found. MatchOption found (KeepsMarks named.now.clerk named.now.boot named.now.ops.now (numbers_in start.old.pending.1) (touches_in touches.now) kept.now) (λ rule. BreaksMarks named.now.clerk named.now.boot named.now.ops.now (numbers_in start.old.pending.1) (touches_in touches.now) kept.now rule)) }
     ensures clerk { start.new.clerk ≡ start.old.clerk }
     ensures boot { start.new.boot ≡ start.old.boot }
     ensures unchanged { OnOk result (start.new ≡ start.old) }
 {
     let pending = &mut start.pending;
-    broken_in(alloc, touches, pending, &kept[from..], clerk, boot, ops)
+    broken_in(alloc, touches, pending, &kept[from..], named)
 }
 
 // The same among all of these.
@@ -82,47 +77,39 @@ fn broken_in(
     touches: &ObjTable<Touches>,
     pending: &mut Deferred,
     kept: &[Kept],
-    clerk: ClerkId,
-    boot: u64,
-    ops: &Numbers,
+    named: &Named<'_>,
 ) -> Result<Option<Rule>, NoMemory>
-    ensures found { IfOk result (λ found. MatchOption found (KeepsMarks clerk boot ops.now (numbers_in pending.old.1) (touches_in touches.now) kept.now) (λ rule. BreaksMarks clerk boot ops.now (numbers_in pending.old.1) (touches_in touches.now) kept.now rule)) }
+    ensures found { IfOk result (λ found. MatchOption found (KeepsMarks named.now.clerk named.now.boot named.now.ops.now (numbers_in pending.old.1) (touches_in touches.now) kept.now) (λ rule. BreaksMarks named.now.clerk named.now.boot named.now.ops.now (numbers_in pending.old.1) (touches_in touches.now) kept.now rule)) }
     ensures unchanged { OnOk result (pending.new ≡ pending.old) }
 {
-    if !are_kept(alloc, kept, clerk, boot, ops)? {
+    if !are_kept(alloc, kept, named)? {
         return Ok(Some(Rule::Named));
     }
-    if !are_uncovered(pending, kept, clerk, boot, ops)? {
+    if !are_uncovered(pending, kept, named)? {
         return Ok(Some(Rule::Covered));
     }
-    if !are_untouched(alloc, touches, kept, clerk, boot, ops)? {
+    if !are_untouched(alloc, touches, kept, named)? {
         return Ok(Some(Rule::Touched));
     }
-    if !are_closed(alloc, kept, clerk, boot, ops)? {
+    if !are_closed(alloc, kept, named)? {
         return Ok(Some(Rule::Closed));
     }
     Ok(None)
 }
 
 /// Whether the kept operation is one of these of the start.
-pub fn is_among(kept: &Kept, clerk: ClerkId, boot: u64, ops: &Numbers) -> bool
-    ensures { result ≡ is_among clerk boot ops.now kept.now }
+pub fn is_among(kept: &Kept, named: &Named<'_>) -> bool
+    ensures { result ≡ is_among named.now.clerk named.now.boot named.now.ops.now kept.now }
 {
-    clerk == kept.clerk && boot == kept.boot && ops.has(kept.number)
+    named.clerk == kept.clerk && named.boot == kept.boot && named.ops.has(kept.number)
 }
 
 // Whether each of the operations is kept.
-fn are_kept(
-    alloc: Global,
-    kept: &[Kept],
-    clerk: ClerkId,
-    boot: u64,
-    ops: &Numbers,
-) -> Result<bool, NoMemory>
-    ensures { IfOk result (λ are. are ≡ are_kept clerk boot ops.now kept.now) }
+fn are_kept(alloc: Global, kept: &[Kept], named: &Named<'_>) -> Result<bool, NoMemory>
+    ensures { IfOk result (λ are. are ≡ are_kept named.now.clerk named.now.boot named.now.ops.now kept.now) }
 {
-    let own = Numbers::of(alloc, numbers_of(alloc, kept, clerk, boot)?)?;
-    Ok(are_all_in(&own, ops))
+    let own = Numbers::of(alloc, numbers_of(alloc, kept, named.clerk, named.boot)?)?;
+    Ok(are_all_in(&own, named.ops))
 }
 
 // The numbers of the start's operations.
@@ -151,18 +138,12 @@ fn are_all_in(known: &Numbers, ops: &Numbers) -> bool
 }
 
 // Whether none of the operations is covered.
-fn are_uncovered(
-    pending: &mut Deferred,
-    kept: &[Kept],
-    clerk: ClerkId,
-    boot: u64,
-    ops: &Numbers,
-) -> Result<bool, NoMemory>
-    ensures are { IfOk result (λ are. are ≡ are_uncovered clerk boot ops.now (numbers_in pending.old.1) kept.now) }
+fn are_uncovered(pending: &mut Deferred, kept: &[Kept], named: &Named<'_>) -> Result<bool, NoMemory>
+    ensures are { IfOk result (λ are. are ≡ are_uncovered named.now.clerk named.now.boot named.now.ops.now (numbers_in pending.old.1) kept.now) }
     ensures unchanged { OnOk result (pending.new ≡ pending.old) }
 {
     for kept in kept {
-        if is_among(kept, clerk, boot, ops) && !pending.has(kept.number)? {
+        if is_among(kept, named) && !pending.has(kept.number)? {
             return Ok(false);
         }
     }
@@ -174,14 +155,15 @@ fn are_untouched(
     alloc: Global,
     touches: &ObjTable<Touches>,
     kept: &[Kept],
-    clerk: ClerkId,
-    boot: u64,
-    ops: &Numbers,
+    named: &Named<'_>,
 ) -> Result<bool, NoMemory>
-    ensures { IfOk result (λ are. are ≡ are_untouched clerk boot ops.now (touches_in touches.now) kept.now) }
+    ensures { IfOk result (λ are. are ≡ are_untouched named.now.clerk named.now.boot named.now.ops.now (touches_in touches.now) kept.now) }
 {
     for kept in kept {
-        if is_among(kept, clerk, boot, ops) && is_touched(alloc, touches, kept)? {
+        if !is_among(kept, named) {
+            continue;
+        }
+        if is_touched(alloc, touches, kept)? {
             return Ok(false);
         }
     }
@@ -190,24 +172,18 @@ fn are_untouched(
 
 // Whether no other operation of the start is ordered after one of these. Each is looked at once, from
 // the last one on.
-fn are_closed(
-    alloc: Global,
-    kept: &[Kept],
-    clerk: ClerkId,
-    boot: u64,
-    ops: &Numbers,
-) -> Result<bool, NoMemory>
-    ensures { IfOk result (λ closed. closed ≡ are_closed clerk boot ops.now kept.now) }
+fn are_closed(alloc: Global, kept: &[Kept], named: &Named<'_>) -> Result<bool, NoMemory>
+    ensures { IfOk result (λ closed. closed ≡ are_closed named.now.clerk named.now.boot named.now.ops.now kept.now) }
 {
     let mut outside = Outside::new(alloc);
     let mut at = kept.len();
     'back: while at > 0 {
         at -= 1;
         let next = &kept[at];
-        if !is_own(next, clerk, boot) {
+        if !is_own(next, named.clerk, named.boot) {
             continue;
         }
-        if !ops.has(next.number) {
+        if !named.ops.has(next.number) {
             outside.add(&next.update)?;
             continue;
         }
@@ -232,37 +208,28 @@ pub fn owe_at(
     at: usize,
     kept: &[Kept],
     from: usize,
-    clerk: ClerkId,
-    boot: u64,
-    ops: &Numbers,
+    named: &Named<'_>,
 ) -> Result<(), NoMemory>
     requires at { at < length starts.old.items }
     requires within { from ≤ length kept.now }
-    requires none { list_any (is_among clerk boot ops.now) (take from kept.now) ≡ false }
-    ensures owing { OnOk result ((s : StartOf) × IsOwing (pairs_of (filter (is_one_of clerk boot ops.now) (ops_of kept.now))) (slice_index_or starts.old.items at s) s
+    requires none { list_any (is_among named.now.clerk named.now.boot named.now.ops.now) (take from kept.now) ≡ false }
+    ensures owing { OnOk result ((s : StartOf) × IsOwing (pairs_of (filter (is_one_of named.now.clerk named.now.boot named.now.ops.now) (ops_of kept.now))) (slice_index_or starts.old.items at s) s
         × (starts.new.items ≡ slice_set starts.old.items at s)) }
     ensures same { SamePlaces starts.old.items starts.new.items }
 {
-    owe(alloc, &mut starts[at], &kept[from..], clerk, boot, ops)
+    owe(alloc, &mut starts[at], &kept[from..], named)
 }
 
 // Adds the pairs of the lost operations to what is owed.
-fn owe(
-    alloc: Global,
-    start: &mut Start,
-    kept: &[Kept],
-    clerk: ClerkId,
-    boot: u64,
-    ops: &Numbers,
-) -> Result<(), NoMemory>
+fn owe(alloc: Global, start: &mut Start, kept: &[Kept], named: &Named<'_>) -> Result<(), NoMemory>
     ensures clerk { start.new.clerk ≡ start.old.clerk }
     ensures boot { start.new.boot ≡ start.old.boot }
     ensures count { start.new.pending.0 ≡ start.old.pending.0 }
-    ensures owed { OnOk result (start.new.owed ≡ start.old.owed ++ pairs_of (filter (is_one_of clerk boot ops.now) (ops_of kept.now))) }
+    ensures owed { OnOk result (start.new.owed ≡ start.old.owed ++ pairs_of (filter (is_one_of named.now.clerk named.now.boot named.now.ops.now) (ops_of kept.now))) }
     ensures pending { start.new.pending.1 ≡ start.old.pending.1 }
 {
     for lost in kept {
-        if is_among(lost, clerk, boot, ops) {
+        if is_among(lost, named) {
             push_pairs(
                 &mut start.owed,
                 lost.number,
@@ -288,15 +255,13 @@ pub fn forget(
     alloc: Global,
     kept: &mut Vec<Kept>,
     from: usize,
-    clerk: ClerkId,
-    boot: u64,
-    ops: &Numbers,
+    named: &Named<'_>,
 ) -> Result<(), NoMemory>
     requires within { from ≤ length kept.old.items }
-    requires none { list_any (is_among clerk boot ops.now) (take from kept.old.items) ≡ false }
-    ensures { OnOk result (kept.new.items ≡ filter (λ k. not (is_among clerk boot ops.now k)) kept.old.items) }
+    requires none { list_any (is_among named.now.clerk named.now.boot named.now.ops.now) (take from kept.old.items) ≡ false }
+    ensures { OnOk result (kept.new.items ≡ filter (λ k. not (is_among named.now.clerk named.now.boot named.now.ops.now k)) kept.old.items) }
 {
-    let left = take_behind(alloc, kept, from, clerk, boot, ops)?;
+    let left = take_behind(alloc, kept, from, named)?;
     put_back(kept, left)
 }
 
@@ -305,19 +270,17 @@ fn take_behind(
     alloc: Global,
     kept: &mut Vec<Kept>,
     from: usize,
-    clerk: ClerkId,
-    boot: u64,
-    ops: &Numbers,
+    named: &Named<'_>,
 ) -> Result<Vec<Kept>, NoMemory>
     requires { from ≤ length kept.old.items }
-    ensures { IfOk result (λ left. (kept.new.items ≡ take from kept.old.items) × (reverse left.items ≡ filter (λ k. not (is_among clerk boot ops.now k)) (drop from kept.old.items))) }
+    ensures { IfOk result (λ left. (kept.new.items ≡ take from kept.old.items) × (reverse left.items ≡ filter (λ k. not (is_among named.now.clerk named.now.boot named.now.ops.now k)) (drop from kept.old.items))) }
 {
     let mut left = Vec::new(alloc);
     'back: while kept.len() > from {
         let Some(last) = kept.pop() else {
             break;
         };
-        if !is_among(&last, clerk, boot, ops) {
+        if !is_among(&last, named) {
             left.push(last)?;
         }
     }

@@ -9,9 +9,8 @@ ghost use Rattle.ec_history.specs.History.{updates, is_one_of};
 ghost use Rattle.ec_judge.specs.Carried.{ops_of, is_among, is_noted, AreLaid, AreNoted, IsFrontKept, IsFrontAt, IsWholeBeside, IsFirm, IsBehind, IsRestored, IsLeft};
 
 use crate::carried::{Firm, Kept};
-use crate::losses::is_among;
-use ec_base::{ClerkId, NoMemory, ObjId};
-use ec_order::numbers::Numbers;
+use crate::losses::{Named, is_among};
+use ec_base::{NoMemory, ObjId};
 use ec_order::objmap::ObjMap;
 use ec_pending::overlay::Overlay;
 use ec_volume::{ApplyFault, Update, Volume, operands};
@@ -42,9 +41,7 @@ pub fn leave(
     firm: &mut Firm,
     kept: &[Kept],
     from: usize,
-    clerk: ClerkId,
-    boot: u64,
-    ops: &Numbers,
+    named: &Named<'_>,
 ) -> Result<bool, NoMemory>
     requires sound { T (list_all is_sound (updates (ops_of kept.now))) }
     requires fits { Fits formatted (updates (ops_of kept.now)) }
@@ -52,19 +49,19 @@ pub fn leave(
     requires firm { IsFirm kept.now firm.old.count (images firm.old.volume.under) }
     requires laid { AreLaid kept.now firm.old.count firm.old.volume }
     requires within { from ≤ length kept.now }
-    requires none { list_any (is_among clerk boot ops.now) (take from kept.now) ≡ false }
-    ensures { IfOk result (λ fits. MatchBool fits (IsLeft clerk boot ops.now kept.now firm.new) (¬ (Fits formatted (updates (filter (λ k. not (is_one_of clerk boot ops.now k)) (ops_of kept.now)))))) }
+    requires none { list_any (is_among named.now.clerk named.now.boot named.now.ops.now) (take from kept.now) ≡ false }
+    ensures { IfOk result (λ fits. MatchBool fits (IsLeft named.now.clerk named.now.boot named.now.ops.now kept.now firm.new) (¬ (Fits formatted (updates (filter (λ k. not (is_one_of named.now.clerk named.now.boot named.now.ops.now k)) (ops_of kept.now)))))) }
 {
-    let anew = begin(alloc, firm, kept, from, clerk, boot, ops)?;
-    if !advance(firm, kept, clerk, boot, ops)? {
+    let anew = begin(alloc, firm, kept, from, named)?;
+    if !advance(firm, kept, named)? {
         return Ok(false);
     }
     let mut noted = ObjMap::new(alloc);
     let count = firm.count;
     let volume = &mut firm.volume;
     let behind = &kept[count..];
-    restore_all(alloc, volume, &mut noted, behind, anew, clerk, boot, ops)?;
-    carry_on(alloc, volume, &noted, count, kept, clerk, boot, ops)
+    restore_all(alloc, volume, &mut noted, behind, anew, named)?;
+    carry_on(alloc, volume, &noted, count, kept, named)
 }
 
 // Begins anew where the volume below is behind the index. From then on twice as many operations stay
@@ -74,14 +71,12 @@ fn begin(
     firm: &mut Firm,
     kept: &[Kept],
     from: usize,
-    clerk: ClerkId,
-    boot: u64,
-    ops: &Numbers,
+    named: &Named<'_>,
 ) -> Result<bool, NoMemory>
     requires firm { IsFirm kept.now firm.old.count (images firm.old.volume.under) }
     requires within { from ≤ length kept.now }
-    requires none { list_any (is_among clerk boot ops.now) (take from kept.now) ≡ false }
-    ensures behind { OnOk result (IsBehind clerk boot ops.now kept.now firm.new.count (images firm.new.volume.under)) }
+    requires none { list_any (is_among named.now.clerk named.now.boot named.now.ops.now) (take from kept.now) ≡ false }
+    ensures behind { OnOk result (IsBehind named.now.clerk named.now.boot named.now.ops.now kept.now firm.new.count (images firm.new.volume.under)) }
     ensures anew { IfOk result (λ anew. MatchBool anew ((o : ℕ) → has_own firm.new.volume o ≡ false) ((firm.new.volume ≡ firm.old.volume) × (firm.new.count ≡ firm.old.count))) }
 {
     if firm.count <= from {
@@ -105,22 +100,16 @@ fn begin(
 
 // Carries more of the operations out on the volume below, up to the first lost one, but for recent
 // ones. It's false where one doesn't fit.
-fn advance(
-    firm: &mut Firm,
-    kept: &[Kept],
-    clerk: ClerkId,
-    boot: u64,
-    ops: &Numbers,
-) -> Result<bool, NoMemory>
+fn advance(firm: &mut Firm, kept: &[Kept], named: &Named<'_>) -> Result<bool, NoMemory>
     requires sound { T (list_all is_sound (updates (ops_of kept.now))) }
-    requires behind { IsBehind clerk boot ops.now kept.now firm.old.count (images firm.old.volume.under) }
-    ensures behind { IfOk result (λ fits. MatchBool fits (IsBehind clerk boot ops.now kept.now firm.new.count (images firm.new.volume.under)) (¬ (Fits formatted (updates (filter (λ k. not (is_one_of clerk boot ops.now k)) (ops_of kept.now)))))) }
+    requires behind { IsBehind named.now.clerk named.now.boot named.now.ops.now kept.now firm.old.count (images firm.old.volume.under) }
+    ensures behind { IfOk result (λ fits. MatchBool fits (IsBehind named.now.clerk named.now.boot named.now.ops.now kept.now firm.new.count (images firm.new.volume.under)) (¬ (Fits formatted (updates (filter (λ k. not (is_one_of named.now.clerk named.now.boot named.now.ops.now k)) (ops_of kept.now)))))) }
     ensures onward { IfOk result (λ fits. firm.old.count ≤ firm.new.count) }
     ensures over { IfOk result (λ fits. firm.new.volume.over ≡ firm.old.volume.over) }
 {
     'advance: while firm.count < kept.len() && kept.len() - firm.count > firm.recent {
         let next = &kept[firm.count];
-        if is_among(next, clerk, boot, ops) {
+        if is_among(next, named) {
             return Ok(true);
         }
         if !carry_out(&mut firm.volume.under, &next.update)? {
@@ -139,16 +128,14 @@ fn restore_all(
     noted: &mut ObjMap<()>,
     kept: &[Kept],
     all: bool,
-    clerk: ClerkId,
-    boot: u64,
-    ops: &Numbers,
+    named: &Named<'_>,
 ) -> Result<(), NoMemory>
     requires { noted.old ≡ [] }
     ensures restored { OnOk result (IsRestored volume.old volume.new (is_noted noted.new)) }
-    ensures noted { OnOk result (AreNoted (λ k. all || is_among clerk boot ops.now k) (is_noted noted.new) kept.now) }
+    ensures noted { OnOk result (AreNoted (λ k. all || is_among named.now.clerk named.now.boot named.now.ops.now k) (is_noted noted.new) kept.now) }
 {
     for next in kept {
-        if all || is_among(next, clerk, boot, ops) {
+        if all || is_among(next, named) {
             restore_each(volume, noted, &operands(alloc, &next.update)?)?;
         }
     }
@@ -182,21 +169,19 @@ fn carry_on(
     noted: &ObjMap<()>,
     from: usize,
     kept: &[Kept],
-    clerk: ClerkId,
-    boot: u64,
-    ops: &Numbers,
+    named: &Named<'_>,
 ) -> Result<bool, NoMemory>
     requires sound { T (list_all is_sound (updates (ops_of kept.now))) }
     requires within { from ≤ length kept.now }
-    requires at { IsFrontAt (is_noted noted.now) (λ k. not (is_one_of clerk boot ops.now k)) kept.now from (shown volume.old) }
-    requires beside { IsWholeBeside (is_noted noted.now) (λ k. not (is_one_of clerk boot ops.now k)) kept.now (shown volume.old) }
-    ensures images { IfOk result (λ fits. MatchBool fits (IsFrontKept (λ k. not (is_one_of clerk boot ops.now k)) kept.now (length kept.now) (shown volume.new)) (¬ (Fits formatted (updates (filter (λ k. not (is_one_of clerk boot ops.now k)) (ops_of kept.now)))))) }
+    requires at { IsFrontAt (is_noted noted.now) (λ k. not (is_one_of named.now.clerk named.now.boot named.now.ops.now k)) kept.now from (shown volume.old) }
+    requires beside { IsWholeBeside (is_noted noted.now) (λ k. not (is_one_of named.now.clerk named.now.boot named.now.ops.now k)) kept.now (shown volume.old) }
+    ensures images { IfOk result (λ fits. MatchBool fits (IsFrontKept (λ k. not (is_one_of named.now.clerk named.now.boot named.now.ops.now k)) kept.now (length kept.now) (shown volume.new)) (¬ (Fits formatted (updates (filter (λ k. not (is_one_of named.now.clerk named.now.boot named.now.ops.now k)) (ops_of kept.now)))))) }
     ensures own { IfOk result (λ fits. (o : ℕ) → T (has_own volume.old o) → T (has_own volume.new o)) }
     ensures under { IfOk result (λ fits. volume.new.under ≡ volume.old.under) }
 {
     for at in from..kept.len() {
         let next = &kept[at];
-        if is_among(next, clerk, boot, ops) {
+        if is_among(next, named) {
             continue;
         }
         let objs = noted_operands(alloc, noted, &next.update)?;

@@ -11,15 +11,15 @@ ghost use Rattle.ec_pending.specs.OfOwes.Rules.{IsNumbered};
 ghost use Rattle.ec_judge.specs.declared.carried.Start.{Start as StartOf};
 
 use crate::carried::{Issuer, Kept, Start, Touches};
-use crate::losses;
+use crate::losses::{self, Named};
 use ec_base::{ClerkId, Duplicate, NoMemory, ObjId, OpNo};
 use ec_history::Rule;
-use ec_order::numbers::{Numbers, StartIndex, find_start, note_start};
+use ec_order::numbers::{StartIndex, find_start, note_start};
 use ec_order::objtable::ObjTable;
 use ec_pending::overlay::Overlay;
-use ec_pending::owes::Owes;
+use ec_pending::owes::{Answered, Owes};
 use ec_pending::{Asked, Deferred};
-use ec_plain::{Call, Outcome};
+use ec_plain::Outcome;
 use ec_volume::Update;
 use std::alloc::Global;
 use std::collections::BTreeMap;
@@ -97,15 +97,14 @@ impl Starts {
         at: usize,
         asked: &Asked,
         place: u32,
-        op: &Option<OpNo>,
-        call: &Call,
+        answered: &Answered<'_>,
         outcome: &Outcome,
     ) -> Result<(), NoMemory>
         requires within { at < length self.old }
-        requires next { (s : StartOf) → IsNumbered (slice_index_or self.old at s).pending.0 op.now }
-        ensures { OnOk result ((s : StartOf) × IsNoted asked.now place op.now call.now outcome.now (slice_index_or self.old at s) s × (self.new ≡ slice_set self.old at s)) }
+        requires next { (s : StartOf) → IsNumbered (slice_index_or self.old at s).pending.0 answered.now.op.now }
+        ensures { OnOk result ((s : StartOf) × IsNoted asked.now place answered.now.op.now answered.now.call.now outcome.now (slice_index_or self.old at s) s × (self.new ≡ slice_set self.old at s)) }
     {
-        note_at(&mut self.items, at, asked, place, op, call, outcome)
+        note_at(&mut self.items, at, asked, place, answered, outcome)
     }
 
     /// The first rule that a loss of these operations of the start at this index breaks, but for what
@@ -116,29 +115,16 @@ impl Starts {
         at: usize,
         kept: &[Kept],
         from: usize,
-        clerk: ClerkId,
-        boot: u64,
-        ops: &Numbers,
+        named: &Named<'_>,
     ) -> Result<Option<Rule>, NoMemory>
         requires at { at < length self.old }
         requires within { from ≤ length kept.now }
-        requires none { list_any (is_among clerk boot ops.now) (take from kept.now) ≡ false }
-        ensures found { IfOk result (λ found. (s : StartOf) × (s ≡ slice_index_or self.old at s) × MatchOption found (KeepsMarks clerk boot ops.now (numbers_in s.pending.1) (touches_in touches.now) kept.now)
-            (λ rule. BreaksMarks clerk boot ops.now (numbers_in s.pending.1) (touches_in touches.now) kept.now rule)) }
+        requires none { list_any (is_among named.now.clerk named.now.boot named.now.ops.now) (take from kept.now) ≡ false }
+        ensures found { IfOk result (λ found. (s : StartOf) × (s ≡ slice_index_or self.old at s) × MatchOption found (KeepsMarks named.now.clerk named.now.boot named.now.ops.now (numbers_in s.pending.1) (touches_in touches.now) kept.now)
+            (λ rule. BreaksMarks named.now.clerk named.now.boot named.now.ops.now (numbers_in s.pending.1) (touches_in touches.now) kept.now rule)) }
         ensures same { OnOk result (self.new ≡ self.old) }
     {
-        let alloc = self.alloc;
-        losses::broken_at(
-            alloc,
-            touches,
-            &mut self.items,
-            at,
-            kept,
-            from,
-            clerk,
-            boot,
-            ops,
-        )
+        losses::broken_at(touches, &mut self.items, at, kept, from, named)
     }
 
     /// Adds the pairs of the lost operations to what the start at this index owes.
@@ -147,17 +133,15 @@ impl Starts {
         at: usize,
         kept: &[Kept],
         from: usize,
-        clerk: ClerkId,
-        boot: u64,
-        ops: &Numbers,
+        named: &Named<'_>,
     ) -> Result<(), NoMemory>
         requires at { at < length self.old }
         requires within { from ≤ length kept.now }
-        requires none { list_any (is_among clerk boot ops.now) (take from kept.now) ≡ false }
-        ensures { OnOk result ((s : StartOf) × IsOwing (pairs_of (filter (is_one_of clerk boot ops.now) (ops_of kept.now))) (slice_index_or self.old at s) s × (self.new ≡ slice_set self.old at s)) }
+        requires none { list_any (is_among named.now.clerk named.now.boot named.now.ops.now) (take from kept.now) ≡ false }
+        ensures { OnOk result ((s : StartOf) × IsOwing (pairs_of (filter (is_one_of named.now.clerk named.now.boot named.now.ops.now) (ops_of kept.now))) (slice_index_or self.old at s) s × (self.new ≡ slice_set self.old at s)) }
     {
         let alloc = self.alloc;
-        losses::owe_at(alloc, &mut self.items, at, kept, from, clerk, boot, ops)
+        losses::owe_at(alloc, &mut self.items, at, kept, from, named)
     }
 
     /// What the start owes.
@@ -185,16 +169,15 @@ fn note_at(
     at: usize,
     asked: &Asked,
     place: u32,
-    op: &Option<OpNo>,
-    call: &Call,
+    answered: &Answered<'_>,
     outcome: &Outcome,
 ) -> Result<(), NoMemory>
     requires within { at < length starts.old.items }
-    requires next { (s : StartOf) → IsNumbered (slice_index_or starts.old.items at s).pending.0 op.now }
-    ensures noted { OnOk result ((s : StartOf) × IsNoted asked.now place op.now call.now outcome.now (slice_index_or starts.old.items at s) s × (starts.new.items ≡ slice_set starts.old.items at s)) }
+    requires next { (s : StartOf) → IsNumbered (slice_index_or starts.old.items at s).pending.0 answered.now.op.now }
+    ensures noted { OnOk result ((s : StartOf) × IsNoted asked.now place answered.now.op.now answered.now.call.now outcome.now (slice_index_or starts.old.items at s) s × (starts.new.items ≡ slice_set starts.old.items at s)) }
     ensures same { SamePlaces starts.old.items starts.new.items }
 {
-    note(&mut starts[at], asked, place, op, call, outcome)
+    note(&mut starts[at], asked, place, answered, outcome)
 }
 
 // A call of the start was answered: what it asks is covered, what it met is reported, and its
@@ -203,20 +186,19 @@ fn note(
     start: &mut Start,
     asked: &Asked,
     place: u32,
-    op: &Option<OpNo>,
-    call: &Call,
+    answered: &Answered<'_>,
     outcome: &Outcome,
 ) -> Result<(), NoMemory>
-    requires { IsNumbered start.old.pending.0 op.now }
+    requires { IsNumbered start.old.pending.0 answered.now.op.now }
     ensures clerk { start.new.clerk ≡ start.old.clerk }
     ensures boot { start.new.boot ≡ start.old.boot }
-    ensures count { OnOk result (start.new.pending.0 ≡ count_next start.old.pending.0 op.now) }
-    ensures owed { OnOk result (start.new.owed ≡ filter (λ q. not (meets outcome.now call.now q)) start.old.owed) }
-    ensures pending { OnOk result (start.new.pending.1 ≡ rest (is_asked asked.now) start.old.pending.1 ++ issues_of place op.now outcome.now.update) }
+    ensures count { OnOk result (start.new.pending.0 ≡ count_next start.old.pending.0 answered.now.op.now) }
+    ensures owed { OnOk result (start.new.owed ≡ filter (λ q. not (meets outcome.now answered.now.call.now q)) start.old.owed) }
+    ensures pending { OnOk result (start.new.pending.1 ≡ rest (is_asked asked.now) start.old.pending.1 ++ issues_of place answered.now.op.now outcome.now.update) }
 {
-    start.owed.report(call, outcome);
+    start.owed.report(answered.call, outcome);
     start.pending.cover(asked)?;
-    if let Some(number) = op {
+    if let Some(number) = answered.op {
         let update = copied(&outcome.update)?;
         start.pending.issue(*number, place, update)?;
     }

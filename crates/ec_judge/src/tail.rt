@@ -7,21 +7,21 @@ ghost use Rattle.ec_history.specs.History.{of_start, of_issue};
 ghost use Rattle.ec_judge.specs.Carried.{op_of, ops_of, is_among};
 
 use crate::carried::Kept;
+use crate::losses::Named;
 use ec_base::ClerkId;
-use ec_order::numbers::Numbers;
 
 /// An index before which none of the start's kept operations has one of these numbers. A walk from
 /// the last one on finds it.
-pub fn first_of(kept: &[Kept], clerk: ClerkId, boot: u64, ops: &Numbers) -> usize
-    requires { T (is_sorted nat_cmp (of_issue clerk boot (ops_of kept.now))) }
+pub fn first_of(kept: &[Kept], named: &Named<'_>) -> usize
+    requires { T (is_sorted nat_cmp (of_issue named.now.clerk named.now.boot (ops_of kept.now))) }
     ensures within { result ≤ length kept.now }
-    ensures none { list_any (is_among clerk boot ops.now) (take result kept.now) ≡ false }
+    ensures none { list_any (is_among named.now.clerk named.now.boot named.now.ops.now) (take result kept.now) ≡ false }
 {
-    let least = ops.least();
+    let least = named.ops.least();
     let mut at = kept.len();
     'back: while at > 0 {
         at -= 1;
-        if is_up_to(&kept[at], clerk, boot, least) {
+        if is_up_to(&kept[at], named.clerk, named.boot, least) {
             return at;
         }
     }

@@ -6,6 +6,7 @@ ghost use Rattle.ec_legal.specs.Placed.{IsPlaceFault};
 ghost use Rattle.ec_lines.specs.Following.{Follows};
 
 use crate::history::place_lines;
+use crate::placing::Lines;
 use ec_base::NoMemory;
 use ec_history::{Entry, Shown};
 use ec_judge::HistoryFault;
@@ -78,12 +79,11 @@ pub fn place_next(
 {
     settle_next(alloc, ahead, shown, last)?;
     entries.clear();
-    place_block(alloc, ahead, shown, entries)
+    place_block(ahead, shown, entries)
 }
 
 // Places the next settled lines, so many as one block has.
 fn place_block(
-    alloc: Global,
     ahead: &mut Ahead,
     shown: &[Shown],
     entries: &mut Vec<(u32, Entry)>,
@@ -104,7 +104,8 @@ fn place_block(
     let to = block_end(from, settled);
     let begins = &ahead.following.begins[..settled];
     let watches = &mut ahead.watches;
-    place_lines(alloc, watches, shown, begins, settled, from, to, entries)?;
+    let lines = Lines { shown, begins };
+    place_lines(watches, &lines, settled, from, to, entries)?;
     ahead.placed = to;
     Ok(())
 }

@@ -14,7 +14,7 @@ ghost use Rattle.ec_legal.specs.Placed.{IsPlaceFault};
 ghost use Rattle.ec_watch.specs.Watches.{AreWatched};
 
 use crate::fronts::{kept_of, owed_of};
-use crate::placing;
+use crate::placing::{self, Lines};
 use ec_base::{ClerkId, NoMemory, ObjId, OpNo};
 use ec_history::{Entry, Shown};
 use ec_judge::HistoryFault;
@@ -102,54 +102,57 @@ pub fn place(alloc: Global, shown: &[Shown]) -> Result<History, HistoryFault>
     };
     let mut watches = watching::none_watched(alloc)?;
     let mut entries = Vec::new(alloc);
-    place_all(alloc, &mut watches, shown, &begins, &mut entries)?;
+    let lines = Lines {
+        shown,
+        begins: &begins,
+    };
+    place_all(&mut watches, &lines, &mut entries)?;
     Ok(History { entries })
 }
 
-// Adds the entries of these lines, whose calls began at these places.
+// Adds the entries of all these lines, which are followed.
 fn place_all(
-    alloc: Global,
     watches: &mut [Watching],
-    shown: &[Shown],
-    begins: &[u32],
+    lines: &Lines<'_>,
     entries: &mut Vec<(u32, Entry)>,
 ) -> Result<(), NoMemory>
-    requires few { length shown.now < 2 ^ 31 }
+    requires few { length lines.now.shown.now < 2 ^ 31 }
     requires watched { AreWatched watches.old [] }
-    requires begins { AreBegins [] shown.now begins.now }
-    ensures { OnOk result (entries.new.items ≡ entries.old.items ++ place shown.now) }
+    requires begins { AreBegins [] lines.now.shown.now lines.now.begins.now }
+    ensures { OnOk result (entries.new.items ≡ entries.old.items ++ place lines.now.shown.now) }
 {
-    let end = shown.len();
-    place_lines(alloc, watches, shown, begins, end, 0, end, entries)?;
+    let end = lines.shown.len();
+    place_lines(watches, lines, end, 0, end, entries)?;
     Ok(())
 }
 
-/// Adds the entries of the lines between these places, where the calls of the lines that are followed
-/// began at these places.
+/// Adds the entries of the lines between these places, where so many of all are followed.
 pub fn place_lines(
-    alloc: Global,
     watches: &mut [Watching],
-    shown: &[Shown],
-    begins: &[u32],
+    lines: &Lines<'_>,
     followed: usize,
     from: usize,
     to: usize,
     entries: &mut Vec<(u32, Entry)>,
 ) -> Result<(), NoMemory>
-    requires few { length shown.now < 2 ^ 31 }
+    requires few { length lines.now.shown.now < 2 ^ 31 }
     requires onward { from ≤ to }
     requires known { to ≤ followed }
-    requires within { followed ≤ length shown.now }
-    requires begins { AreBegins [] (take followed shown.now) begins.now }
-    requires watched { AreWatched watches.old (take from shown.now) }
-    ensures watched { OnOk result (AreWatched watches.new (take to shown.now)) }
-    ensures entries { OnOk result ((more : Listed Line) → IsSettled (shown.now ++ more) followed → entries.old.items ++ placed_from (shown.now ++ more) from ≡ entries.new.items ++ placed_from (shown.now ++ more) to) }
+    requires within { followed ≤ length lines.now.shown.now }
+    requires begins { AreBegins [] (take followed lines.now.shown.now) lines.now.begins.now }
+    requires watched { AreWatched watches.old (take from lines.now.shown.now) }
+    ensures watched { OnOk result (AreWatched watches.new (take to lines.now.shown.now)) }
+    ensures entries { OnOk result ((more : Listed Line) → IsSettled (lines.now.shown.now ++ more) followed → entries.old.items ++ placed_from (lines.now.shown.now ++ more) from ≡ entries.new.items ++ placed_from (lines.now.shown.now ++ more) to) }
 {
-    let known = &shown[..followed];
+    let alloc = *entries.allocator();
+    let known = Lines {
+        shown: &lines.shown[..followed],
+        begins: lines.begins,
+    };
     for at in from..to {
-        let line = &shown[at];
-        placing::push(alloc, watches, known, begins, at, line, entries)?;
-        watching::note(alloc, watches, line)?;
+        let shown = &lines.shown[at];
+        placing::push(watches, &known, at, shown, entries)?;
+        watching::note(alloc, watches, shown)?;
     }
     Ok(())
 }

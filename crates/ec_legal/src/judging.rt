@@ -33,6 +33,17 @@ pub struct Trial {
     pub next: Vec<(u32, Entry)>,
 }
 
+// What is done in one step: more of the lines are placed, and entries of those above are judged.
+#[derive(Clone, Copy, Drop)]
+struct Block<'a> {
+    shown: &'a [Shown],
+    // No line comes behind them.
+    is_last: bool,
+    entries: &'a [(u32, Entry)],
+    // There may be so many objects.
+    most: u32,
+}
+
 /// Why a trial goes no further.
 #[derive(Clone, Copy, Debug, Drop, PartialEq, Eq)]
 pub enum Stop {
@@ -76,16 +87,19 @@ impl Trial {
         ensures stop { IfErr result (Stops max_objects self.new.ahead shown.now) }
     {
         'blocks: while is_left(&self.ahead, shown, false) {
+            let block = Block {
+                shown,
+                is_last: false,
+                entries: &self.entries,
+                most: max_objects,
+            };
             let (placed, judged) = step(
                 rt,
                 alloc,
-                shown,
-                max_objects,
-                false,
+                &block,
                 &mut self.ahead,
                 &mut self.next,
                 &mut self.judging,
-                &self.entries,
             );
             if let Err(fault) = placed {
                 return Err(at_line(fault));
@@ -116,16 +130,19 @@ impl Trial {
         ensures fault { IfErr result (λ fault. IsJudgeFault max_objects shown.now fault) }
     {
         'blocks: while is_left(&self.ahead, shown, true) {
+            let block = Block {
+                shown,
+                is_last: true,
+                entries: &self.entries,
+                most: max_objects,
+            };
             let (placed, judged) = step(
                 rt,
                 alloc,
-                shown,
-                max_objects,
-                true,
+                &block,
                 &mut self.ahead,
                 &mut self.next,
                 &mut self.judging,
-                &self.entries,
             );
             placed?;
             if let Err(fault) = judged {
@@ -190,32 +207,33 @@ fn at_entry(fault: HistoryFault) -> Stop
 fn step<R: Threads + Sync>(
     rt: &R,
     alloc: Global,
-    shown: &[Shown],
-    most: u32,
-    last: bool,
+    block: &Block<'_>,
     ahead: &mut Ahead,
     next: &mut Vec<(u32, Entry)>,
     judging: &mut Judging,
-    entries: &[(u32, Entry)],
 ) -> (Result<(), HistoryFault>, Result<(), HistoryFault>)
-    requires few { length shown.now < 2 ^ 31 }
-    requires ahead { IsAhead ahead.old shown.now }
-    requires left { is_left ahead.old shown.now last ≡ true }
-    requires lines { AreAtLines (judging.old ++ entries.now) }
-    requires low { Each (λ e. e.0 < 2 ^ 31) entries.now }
-    requires legal { IsLegal from_formatted most judging.old }
-    ensures ahead { OnOk result.0 (IsAhead ahead.new shown.now) }
-    ensures told { last ≡ false → AreTold shown.now ahead.old.settled → OnOk result.0 (AreTold shown.now ahead.new.settled) }
-    ensures onward { OnOk result.0 ((length shown.now - ahead.new.placed) + (length shown.now - ahead.new.followed) < (length shown.now - ahead.old.placed) + (length shown.now - ahead.old.followed)) }
-    ensures next { OnOk result.0 ((more : Listed Line) → IsSettled (shown.now ++ more) ahead.new.settled → placed_from (shown.now ++ more) ahead.old.placed ≡ next.new.items ++ placed_from (shown.now ++ more) ahead.new.placed) }
-    ensures place_fault { IfErr result.0 (λ fault. IsPlaceFault shown.now fault) }
-    ensures done { OnOk result.1 (judging.new ≡ judging.old ++ entries.now) }
-    ensures legal { OnOk result.1 (IsLegal from_formatted most (judging.old ++ entries.now)) }
-    ensures entry_fault { IfErr result.1 (λ fault. IsEntryFault most (judging.old ++ entries.now) fault) }
+    requires few { length block.now.shown.now < 2 ^ 31 }
+    requires ahead { IsAhead ahead.old block.now.shown.now }
+    requires left { is_left ahead.old block.now.shown.now block.now.is_last ≡ true }
+    requires lines { AreAtLines (judging.old ++ block.now.entries.now) }
+    requires low { Each (λ e. e.0 < 2 ^ 31) block.now.entries.now }
+    requires legal { IsLegal from_formatted block.now.most judging.old }
+    ensures ahead { OnOk result.0 (IsAhead ahead.new block.now.shown.now) }
+    ensures told { block.now.is_last ≡ false → AreTold block.now.shown.now ahead.old.settled → OnOk result.0 (AreTold block.now.shown.now ahead.new.settled) }
+    ensures onward { OnOk result.0 ((length block.now.shown.now - ahead.new.placed) + (length block.now.shown.now - ahead.new.followed) < (length block.now.shown.now - ahead.old.placed) + (length block.now.shown.now - ahead.old.followed)) }
+    ensures next { OnOk result.0 ((more : Listed Line) → IsSettled (block.now.shown.now ++ more) ahead.new.settled → placed_from (block.now.shown.now ++ more) ahead.old.placed ≡ next.new.items ++ placed_from (block.now.shown.now ++ more) ahead.new.placed) }
+    ensures place_fault { IfErr result.0 (λ fault. IsPlaceFault block.now.shown.now fault) }
+    ensures done { OnOk result.1 (judging.new ≡ judging.old ++ block.now.entries.now) }
+    ensures legal { OnOk result.1 (IsLegal from_formatted block.now.most (judging.old ++ block.now.entries.now)) }
+    ensures entry_fault { IfErr result.1 (λ fault. IsEntryFault block.now.most (judging.old ++ block.now.entries.now) fault) }
 {
+    let shown = block.shown;
+    let is_last = block.is_last;
+    let entries = block.entries;
+    let most = block.most;
     join_mut(
         rt,
-        &mut || place_next(alloc, ahead, shown, last, next),
+        &mut || place_next(alloc, ahead, shown, is_last, next),
         &mut || judging.judge_on(most, entries),
     )
 }

@@ -128,40 +128,44 @@ pub fn note(
     requires shape { HasShape above.now line.now }
     ensures { OnOk result (Sees seen.new (above.now ++ line.now ∷ [])) }
 {
-    note_call(
-        &mut seen.calls,
-        &seen.watches,
-        &seen.last,
-        above,
-        known,
-        line,
-    )?;
+    let before = Before {
+        shown: above,
+        watches: &seen.watches,
+        last: &seen.last,
+    };
+    note_call(&mut seen.calls, &before, known, line)?;
     note_clerk(alloc, &mut seen.watches, &mut seen.last, above, line)
+}
+
+// The lines above one, and what they show of the clerks.
+#[derive(Clone, Copy, Drop)]
+struct Before<'a> {
+    shown: &'a [Shown],
+    watches: &'a [Watching],
+    last: &'a [u32],
 }
 
 fn note_call(
     calls: &mut Calls,
-    watches: &[Watching],
-    last: &[u32],
-    above: &[Shown],
+    before: &Before<'_>,
     known: Option<CallLines>,
     line: &Shown,
 ) -> Result<(), NoMemory>
-    requires few { length above.now < 2 ^ 31 }
-    requires watched { AreWatched watches.now above.now }
-    requires last { AreLast last.now above.now }
+    requires few { length before.now.shown.now < 2 ^ 31 }
+    requires watched { AreWatched before.now.watches.now before.now.shown.now }
+    requires last { AreLast before.now.last.now before.now.shown.now }
     requires known { known ≡ known_of (get nat_eq calls.old) line.now }
-    requires shape { HasShape above.now line.now }
-    requires index { IsCallIndex (get nat_eq calls.old) above.now }
-    ensures { OnOk result (IsCallIndex (get nat_eq calls.new) (above.now ++ line.now ∷ [])) }
+    requires shape { HasShape before.now.shown.now line.now }
+    requires index { IsCallIndex (get nat_eq calls.old) before.now.shown.now }
+    ensures { OnOk result (IsCallIndex (get nat_eq calls.new) (before.now.shown.now ++ line.now ∷ [])) }
 {
     match line {
         Shown::Waits(number, clerk, _) => {
-            note_number(calls, watches, last, above, known, *number, *clerk, false)?;
+            note_number(calls, before, known, *number, *clerk, false)?;
             Ok(())
         }
         Shown::Answered(number, clerk, _, _, _) => {
-            note_number(calls, watches, last, above, known, *number, *clerk, true)?;
+            note_number(calls, before, known, *number, *clerk, true)?;
             Ok(())
         }
         _ => Ok(()),
@@ -170,23 +174,21 @@ fn note_call(
 
 fn note_number(
     calls: &mut Calls,
-    watches: &[Watching],
-    last: &[u32],
-    above: &[Shown],
+    before: &Before<'_>,
     known: Option<CallLines>,
     number: u32,
     clerk: ClerkId,
     answers: bool,
 ) -> Result<(), NoMemory>
-    requires few { length above.now < 2 ^ 31 }
-    requires watched { AreWatched watches.now above.now }
-    requires last { AreLast last.now above.now }
+    requires few { length before.now.shown.now < 2 ^ 31 }
+    requires watched { AreWatched before.now.watches.now before.now.shown.now }
+    requires last { AreLast before.now.last.now before.now.shown.now }
     requires known { known ≡ get nat_eq calls.old number }
-    ensures { OnOk result (Renews (get nat_eq calls.old) (get nat_eq calls.new) above.now number clerk answers) }
+    ensures { OnOk result (Renews (get nat_eq calls.old) (get nat_eq calls.new) before.now.shown.now number clerk answers) }
 {
-    let boot = start_of(watches, above, clerk);
-    let last = last_of(last, clerk);
-    let lines = index::next(known, above.len(), boot, last, answers);
+    let boot = start_of(before.watches, before.shown, clerk);
+    let last = last_of(before.last, clerk);
+    let lines = index::next(known, before.shown.len(), boot, last, answers);
     index::put(calls, number, lines)
 }
 

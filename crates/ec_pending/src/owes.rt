@@ -4,5 +4,5 @@ mod owes;
 mod replies;
 mod spans;
 
-pub use calls::broken_rule;
+pub use calls::{Answered, broken_rule};
 pub use owes::Owes;

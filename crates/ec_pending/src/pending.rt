@@ -90,7 +90,6 @@ impl Pending {
         self.rising = rises(self.rising, self.last, place);
         self.last = later(self.last, place);
         let ready = prepare(
-            self.alloc,
             &mut self.places,
             &mut self.lasts,
             op,
@@ -173,7 +172,6 @@ fn last_on(lasts: &ObjMap<u32>, obj: ObjId) -> u32
 
 // The tables are ready for one more operation, of an entry at the place. No entry is behind the last one.
 fn prepare(
-    alloc: Global,
     places: &mut SortedMap<OpNo, u32>,
     lasts: &mut ObjMap<u32>,
     op: OpNo,
@@ -186,7 +184,7 @@ fn prepare(
     ensures old { (o n : ℕ) → n ≤ at_or 0 o lasts.old → n ≤ last → n ≤ at_or 0 o lasts.new }
     ensures new { OnOk result ((o : ℕ) → T (member o (operands update.now)) → last ≤ at_or 0 o lasts.new) }
 {
-    let objs = operands(alloc, update)?;
+    let objs = operands(*places.allocator(), update)?;
     note_all(lasts, &objs, last)?;
     places.insert(op, place)
 }

@@ -13,31 +13,37 @@ use ec_volume::Update;
 // A grant of ids has so many.
 const ID_GRANT: u64 = 16;
 
+/// A call as its entry shows it: how it was answered, and the number of its operation.
+#[derive(Clone, Copy, Drop)]
+pub struct Answered<'a> {
+    pub call: &'a Call,
+    pub answer: &'a Answer,
+    pub op: &'a Option<OpNo>,
+}
+
 /// The first rule that the call breaks, by its outcome. Its start issued so many operations and
 /// owes these pairs.
 pub fn broken_rule(
     most: u32,
     count: u64,
     owed: &Owes,
-    call: &Call,
+    answered: &Answered<'_>,
     outcome: &Outcome,
-    answer: &Answer,
-    op: &Option<OpNo>,
 ) -> Result<Option<Rule>, NoMemory>
-    ensures { IfOk result (λ found. MatchOption found (KeepsRules count (due_of owed.now outcome.now call.now) most outcome.now answer.now op.now)
-        (λ rule. BreaksRule count (due_of owed.now outcome.now call.now) most outcome.now answer.now op.now rule)) }
+    ensures { IfOk result (λ found. MatchOption found (KeepsRules count (due_of owed.now outcome.now answered.now.call.now) most outcome.now answered.now.answer.now answered.now.op.now)
+        (λ rule. BreaksRule count (due_of owed.now outcome.now answered.now.call.now) most outcome.now answered.now.answer.now answered.now.op.now rule)) }
 {
-    if !is_next(count, op) {
+    if !is_next(count, answered.op) {
         return Ok(Some(Rule::Number));
     }
-    let due = owed.due(call, outcome)?;
-    if !is_reported(&due, answer) {
+    let due = owed.due(answered.call, outcome)?;
+    if !is_reported(&due, answered.answer) {
         return Ok(Some(Rule::Report));
     }
-    if !is_full(most, outcome, answer) {
+    if !is_full(most, outcome, answered.answer) {
         return Ok(Some(Rule::Room));
     }
-    if !is_reply(outcome, answer, op) {
+    if !is_reply(outcome, answered.answer, answered.op) {
         return Ok(Some(Rule::Reply));
     }
     Ok(None)

@@ -9,7 +9,7 @@ use Rattle.ec_judge.proofs.losses.are_closed.Goals as goal
 
 pub back-init : goal.back-init
 back-init c = (
-  closing-begins (is_one_of c.args.clerk c.args.boot c.args.ops.now) (of_start c.args.clerk c.args.boot) c.args.kept.now (length c.args.kept.now) c.new-outside.result.objs c.new-outside.result.others (drop_all (length c.args.kept.now) c.args.kept.now (omega arith)) c.new-outside.ensures.objs c.new-outside.ensures.others,
+  closing-begins (is_one_of c.args.named.now.clerk c.args.named.now.boot c.args.named.now.ops.now) (of_start c.args.named.now.clerk c.args.named.now.boot) c.args.kept.now (length c.args.kept.now) c.new-outside.result.objs c.new-outside.result.others (drop_all (length c.args.kept.now) c.args.kept.now (omega arith)) c.new-outside.ensures.objs c.new-outside.ensures.others,
   omega arith,
 )
 
@@ -19,8 +19,8 @@ returns-then-branch c =
     let most = c.back.invariant.1 in
     let some = c.back-test.true in
     let mine = sym c.is_own.ensures ∙ c.if-not-is_own.false in
-    let inside = and_from (of_start c.args.clerk c.args.boot (op_of k)) (member k.number c.args.ops.now) mine (sym c.has.ensures ∙ c.if-not-has.false) in
-    closing-fails (is_one_of c.args.clerk c.args.boot c.args.ops.now) (of_start c.args.clerk c.args.boot) c.args.kept.now c.back.at (c.back.at - 1) k (omega (arith, some)) (omega (arith, most, some)) c.index-kept-at.is c.back.outside.objs c.back.outside.others c.back.invariant.0 mine inside (sym (rw c.if-branch.true at c.in_ok-is_after.ensures))
+    let inside = and_from (of_start c.args.named.now.clerk c.args.named.now.boot (op_of k)) (member k.number c.args.named.now.ops.now) mine (sym c.has.ensures ∙ c.if-not-has.false) in
+    closing-fails (is_one_of c.args.named.now.clerk c.args.named.now.boot c.args.named.now.ops.now) (of_start c.args.named.now.clerk c.args.named.now.boot) c.args.kept.now c.back.at (c.back.at - 1) k (omega (arith, some)) (omega (arith, most, some)) c.index-kept-at.is c.back.outside.objs c.back.outside.others c.back.invariant.0 mine inside (sym (rw c.if-branch.true at c.in_ok-is_after.ensures))
 
 pub back-preserved : goal.back-preserved
 back-preserved c =
@@ -28,7 +28,7 @@ back-preserved c =
     let most = c.back.invariant.1 in
     let some = c.back-test.true in
     let mine = sym c.is_own.ensures ∙ c.if-not-is_own.false in
-    let inside = and_from (of_start c.args.clerk c.args.boot (op_of k)) (member k.number c.args.ops.now) mine (sym c.has.ensures ∙ c.if-not-has.false) in (
-      closing-inside (is_one_of c.args.clerk c.args.boot c.args.ops.now) (of_start c.args.clerk c.args.boot) c.args.kept.now c.back.at (c.back.at - 1) k (omega (arith, some)) (omega (arith, most, some)) c.index-kept-at.is c.back.outside.objs c.back.outside.others c.back.invariant.0 mine inside (sym (rw c.if-branch.false at c.in_ok-is_after.ensures)),
+    let inside = and_from (of_start c.args.named.now.clerk c.args.named.now.boot (op_of k)) (member k.number c.args.named.now.ops.now) mine (sym c.has.ensures ∙ c.if-not-has.false) in (
+      closing-inside (is_one_of c.args.named.now.clerk c.args.named.now.boot c.args.named.now.ops.now) (of_start c.args.named.now.clerk c.args.named.now.boot) c.args.kept.now c.back.at (c.back.at - 1) k (omega (arith, some)) (omega (arith, most, some)) c.index-kept-at.is c.back.outside.objs c.back.outside.others c.back.invariant.0 mine inside (sym (rw c.if-branch.false at c.in_ok-is_after.ensures)),
       omega (arith, most),
     )

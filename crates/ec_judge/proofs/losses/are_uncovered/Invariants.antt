@@ -6,5 +6,5 @@ use Rattle.ec_judge.proofs.losses.are_uncovered.Given as goal
 abbrev pub invariant-loop-kept : goal.invariant-loop-kept
 invariant-loop-kept l = record {
   same : l.pending ≡ l.fn.pending;
-  are : are_uncovered l.clerk l.boot l.ops (numbers_in l.fn.pending.1) l.kept ≡ are_uncovered l.clerk l.boot l.ops (numbers_in l.fn.pending.1) (drop l.kept-index l.kept);
+  are : are_uncovered l.named.clerk l.named.boot l.named.ops.now (numbers_in l.fn.pending.1) l.kept ≡ are_uncovered l.named.clerk l.named.boot l.named.ops.now (numbers_in l.fn.pending.1) (drop l.kept-index l.kept);
 }

@@ -7,4 +7,4 @@ use Rattle.ec_judge.proofs.losses.forget.Goals as goal
 pub returns : goal.returns
 returns c =
     let taken = c.in_ok-left.ensures in
-    on-ok _ _ c.put_back.result (λ e. forget-tail c.args.clerk c.args.boot c.args.ops.now c.args.kept.now.items c.args.from c.requires.none c.in_ok-left.left.items c.put_back.new.kept.items taken.1 (e ∙ ap (λ l. l ++ reverse c.in_ok-left.left.items) taken.0)) c.put_back.ensures
+    on-ok _ _ c.put_back.result (λ e. forget-tail c.args.named.now.clerk c.args.named.now.boot c.args.named.now.ops.now c.args.kept.now.items c.args.from c.requires.none c.in_ok-left.left.items c.put_back.new.kept.items taken.1 (e ∙ ap (λ l. l ++ reverse c.in_ok-left.left.items) taken.0)) c.put_back.ensures

@@ -7,7 +7,7 @@ use Rattle.ec_judge.proofs.losses.owe.Goals.{then-is_among+in_ok-operands+in_ok-
 pub loop-lost-preserved : goal.loop-lost-preserved
 loop-lost-preserved c =
     let k = c.lost-item.result in
-    let q = is_one_of c.args.clerk c.args.boot c.args.ops.now in
+    let q = is_one_of c.args.named.now.clerk c.args.named.now.boot c.args.named.now.ops.now in
     let old = c.loop-lost.invariant in
     let start = c.args.start.now.owed in
     elim c.if-is_among.branch [

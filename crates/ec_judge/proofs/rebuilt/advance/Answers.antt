@@ -11,7 +11,7 @@ carry_out-requires c = sound-at c.args.kept.now c.advance.firm.count c.index-kep
 pub returns-then-not-branch-clause-behind : goal.returns-then-not-branch-clause-behind
 returns-then-not-branch-clause-behind c =
     let done = rw c.if-not-branch.true at c.in_ok-carry_out.ensures in
-    front-unfit (λ k. not (is_one_of c.args.clerk c.args.boot c.args.ops.now k)) c.args.kept.now c.advance.firm.count c.index-kept-firm.result c.advance-test.true c.index-kept-firm.is (images c.advance.firm.volume.under) done.0 c.advance.invariant.behind.front (ap not (sym c.is_among.ensures ∙ c.if-is_among.false)) done.1
+    front-unfit (λ k. not (is_one_of c.args.named.now.clerk c.args.named.now.boot c.args.named.now.ops.now k)) c.args.kept.now c.advance.firm.count c.index-kept-firm.result c.advance-test.true c.index-kept-firm.is (images c.advance.firm.volume.under) done.0 c.advance.invariant.behind.front (ap not (sym c.is_among.ensures ∙ c.if-is_among.false)) done.1
 
 pub advance-preserved : goal.advance-preserved
 advance-preserved c =
@@ -22,8 +22,8 @@ advance-preserved c =
     record {
       behind = record {
         within = omega (arith, below);
-        front = front-takes (λ k. not (is_one_of c.args.clerk c.args.boot c.args.ops.now k)) c.args.kept.now c.advance.firm.count c.index-kept-firm.result below c.index-kept-firm.is (images c.advance.firm.volume.under) (images c.carry_out.new.volume) c.advance.invariant.behind.front (ap not unlost) done.0 done.1;
-        unlost = unlost-more c.args.clerk c.args.boot c.args.ops.now c.args.kept.now c.advance.firm.count c.index-kept-firm.result below c.index-kept-firm.is c.advance.invariant.behind.unlost unlost;
+        front = front-takes (λ k. not (is_one_of c.args.named.now.clerk c.args.named.now.boot c.args.named.now.ops.now k)) c.args.kept.now c.advance.firm.count c.index-kept-firm.result below c.index-kept-firm.is (images c.advance.firm.volume.under) (images c.carry_out.new.volume) c.advance.invariant.behind.front (ap not unlost) done.0 done.1;
+        unlost = unlost-more c.args.named.now.clerk c.args.named.now.boot c.args.named.now.ops.now c.args.kept.now c.advance.firm.count c.index-kept-firm.result below c.index-kept-firm.is c.advance.invariant.behind.unlost unlost;
       };
       onward = omega (arith, onward);
       over = c.advance.invariant.over;

@@ -5,7 +5,7 @@ use Rattle.ec_judge.proofs.rebuilt.advance.Given as goal
 
 abbrev pub invariant-advance : goal.invariant-advance
 invariant-advance l = record {
-  behind : IsBehind l.clerk l.boot l.ops l.kept l.firm.count (images l.firm.volume.under);
+  behind : IsBehind l.named.clerk l.named.boot l.named.ops.now l.kept l.firm.count (images l.firm.volume.under);
   onward : l.fn.firm.count ≤ l.firm.count;
   over : l.firm.volume.over ≡ l.fn.firm.volume.over;
 }

@@ -19,7 +19,7 @@ pub returns-then-not-branch-clause-images : goal.returns-then-not-branch-clause-
 returns-then-not-branch-clause-images c =
     let objs = c.deref.ensures.value ∙ c.in_ok-objs.ensures in
     let done = rw c.if-not-branch.true at c.in_ok-carry_out_at.ensures.images in
-    at-unfit (is_noted c.args.noted.now) (λ k. not (is_one_of c.args.clerk c.args.boot c.args.ops.now k)) c.args.kept.now c.loop-at.at c.index-kept-at.result c.loop-at-test.true c.index-kept-at.is (shown c.loop-at.volume) done.0 c.loop-at.invariant.front (ap not (sym c.is_among.ensures ∙ c.if-is_among.false))
+    at-unfit (is_noted c.args.noted.now) (λ k. not (is_one_of c.args.named.now.clerk c.args.named.now.boot c.args.named.now.ops.now k)) c.args.kept.now c.loop-at.at c.index-kept-at.result c.loop-at-test.true c.index-kept-at.is (shown c.loop-at.volume) done.0 c.loop-at.invariant.front (ap not (sym c.is_among.ensures ∙ c.if-is_among.false))
     (ap (first_unfit c.index-kept-at.result.update (shown c.loop-at.volume)) (sym objs) ∙ done.1)
 
 pub loop-at-preserved : goal.loop-at-preserved
@@ -28,7 +28,7 @@ loop-at-preserved c =
     let u = c.index-kept-at.result.update in
     let v = shown c.loop-at.volume in
     let done = rw c.if-not-branch.false at c.in_ok-carry_out_at.ensures.images in
-    let q : Op → Bool = λ k. not (is_one_of c.args.clerk c.args.boot c.args.ops.now k) in
+    let q : Op → Bool = λ k. not (is_one_of c.args.named.now.clerk c.args.named.now.boot c.args.named.now.ops.now k) in
     let step : (o : ℕ) → shown c.carry_out_at.new.self o ≡ cond (member o (filter (is_noted c.args.noted.now) (operands u))) (effect u o (v o)) (v o) = λ o. done.1 o ∙ ap (λ os. cond (member o os) (effect u o (v o)) (v o)) objs in
     record {
       front = at-takes (is_noted c.args.noted.now) q c.args.kept.now c.loop-at.at c.index-kept-at.result c.loop-at-test.true c.index-kept-at.is v (shown c.carry_out_at.new.self) c.loop-at.invariant.front (ap not (sym c.is_among.ensures ∙ c.if-is_among.false)) (ap (first_unfit u v) (sym objs) ∙ done.0) step;

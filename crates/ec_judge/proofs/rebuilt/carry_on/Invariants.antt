@@ -6,8 +6,8 @@ use Rattle.ec_judge.proofs.rebuilt.carry_on.Given as goal
 
 abbrev pub invariant-loop-at : goal.invariant-loop-at
 invariant-loop-at l = record {
-  front : IsFrontAt (is_noted l.noted) (λ k. not (is_one_of l.clerk l.boot l.ops k)) l.kept l.at (shown l.volume);
-  beside : IsWholeBeside (is_noted l.noted) (λ k. not (is_one_of l.clerk l.boot l.ops k)) l.kept (shown l.volume);
+  front : IsFrontAt (is_noted l.noted) (λ k. not (is_one_of l.named.clerk l.named.boot l.named.ops.now k)) l.kept l.at (shown l.volume);
+  beside : IsWholeBeside (is_noted l.noted) (λ k. not (is_one_of l.named.clerk l.named.boot l.named.ops.now k)) l.kept (shown l.volume);
   own : (o : ℕ) → T (has_own l.fn.volume o) → T (has_own l.volume o);
   under : l.volume.under ≡ l.fn.volume.under;
 }

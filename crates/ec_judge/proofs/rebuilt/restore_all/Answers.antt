@@ -10,7 +10,7 @@ use Rattle.ec_judge.proofs.rebuilt.restore_all.Goals.{then-all+in_ok-operands+in
 pub loop-next-preserved : goal.loop-next-preserved
 loop-next-preserved c =
     let k = c.next-item.result in
-    let p : Kept → Bool = λ j. c.args.all || is_among c.args.clerk c.args.boot c.args.ops.now j in
+    let p : Kept → Bool = λ j. c.args.all || is_among c.args.named.now.clerk c.args.named.now.boot c.args.named.now.ops.now j in
     let old = c.loop-next.invariant in
     elim c.if-all.branch [
       | then-all+in_ok-operands+in_ok-restore_each w ↦
@@ -25,6 +25,6 @@ loop-next-preserved c =
       | else-all+else-is_among w ↦ record {
         restored = rw (w.volume-is, w.noted-is) old.restored;
         noted = rw (w.noted-is) (noted-next p (is_noted c.loop-next.noted) c.args.kept.now c.loop-next.next-index k c.loop-next-test.true c.next-item.is old.noted
-            (λ e. absurd (true≢false (sym e ∙ ap (λ b. b || is_among c.args.clerk c.args.boot c.args.ops.now k) w.if-all.false ∙ sym w.is_among.ensures ∙ w.if-is_among.false))));
+            (λ e. absurd (true≢false (sym e ∙ ap (λ b. b || is_among c.args.named.now.clerk c.args.named.now.boot c.args.named.now.ops.now k) w.if-all.false ∙ sym w.is_among.ensures ∙ w.if-is_among.false))));
       }
     ]

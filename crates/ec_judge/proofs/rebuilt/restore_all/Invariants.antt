@@ -5,5 +5,5 @@ use Rattle.ec_judge.proofs.rebuilt.restore_all.Given as goal
 abbrev pub invariant-loop-next : goal.invariant-loop-next
 invariant-loop-next l = record {
   restored : IsRestored l.fn.volume l.volume (is_noted l.noted);
-  noted : AreNoted (λ k. l.all || is_among l.clerk l.boot l.ops k) (is_noted l.noted) (take l.next-index l.kept);
+  noted : AreNoted (λ k. l.all || is_among l.named.clerk l.named.boot l.named.ops.now k) (is_noted l.noted) (take l.next-index l.kept);
 }

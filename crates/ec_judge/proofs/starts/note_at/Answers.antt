@@ -10,7 +10,7 @@ use Rattle.ec_judge.proofs.Places.{same-places}
 use Rattle.ec_judge.proofs.starts.note_at.Goals as goal
 
 pub note-requires : goal.note-requires
-note-requires c = subst (λ (s : Start). IsNumbered s.pending.0 c.args.op.now) (sym c.index_mut.ensures.value) (c.requires.next c.index_mut.result.now)
+note-requires c = subst (λ (s : Start). IsNumbered s.pending.0 c.args.answered.now.op.now) (sym c.index_mut.ensures.value) (c.requires.next c.index_mut.result.now)
 
 pub returns-clause-noted : goal.returns-clause-noted
 returns-clause-noted c =
@@ -22,9 +22,9 @@ returns-clause-noted c =
       record {
         clerk = c.note.ensures.clerk ∙ ap (λ t. t.clerk) old;
         boot = c.note.ensures.boot ∙ ap (λ t. t.boot) old;
-        count = count ∙ ap (λ t. count_next t.pending.0 c.args.op.now) old;
-        owed = owed ∙ ap (λ t. filter (λ q. not (meets o c.args.call.now q)) t.owed) old;
-        pending = pending ∙ ap (λ t. rest (is_asked c.args.asked.now) t.pending.1 ++ issues_of c.args.place c.args.op.now o.update) old;
+        count = count ∙ ap (λ t. count_next t.pending.0 c.args.answered.now.op.now) old;
+        owed = owed ∙ ap (λ t. filter (λ q. not (meets o c.args.answered.now.call.now q)) t.owed) old;
+        pending = pending ∙ ap (λ t. rest (is_asked c.args.asked.now) t.pending.1 ++ issues_of c.args.place c.args.answered.now.op.now o.update) old;
       },
       refl,
     )) c.note.ensures.count c.note.ensures.owed c.note.ensures.pending

@@ -5,7 +5,7 @@ use Rattle.ec_legal.proofs.history.place_all.Goals as goal
 
 pub returns : goal.returns
 returns c =
-    let ss = c.args.shown.now in
+    let ss = c.args.lines.now.shown.now in
     let old = c.args.entries.now.items in
     let new = c.place_lines.new.entries.items in
     let none = append-nil ss in

@@ -6,5 +6,5 @@ use Rattle.ec_legal.proofs.history.place_lines.Given as goal
 
 abbrev pub invariant-loop-at : goal.invariant-loop-at
 invariant-loop-at l =
-    AreWatched l.watches (take l.at l.shown)
-    × ((more : List Shown) → IsSettled (l.shown ++ more) l.followed → l.fn.entries.items ++ placed_from (l.shown ++ more) l.from ≡ l.entries.items ++ placed_from (l.shown ++ more) l.at)
+    AreWatched l.watches (take l.at l.lines.shown.now)
+    × ((more : List Shown) → IsSettled (l.lines.shown.now ++ more) l.followed → l.fn.entries.items ++ placed_from (l.lines.shown.now ++ more) l.from ≡ l.entries.items ++ placed_from (l.lines.shown.now ++ more) l.at)

@@ -20,31 +20,31 @@ returns-in-Some-2 c = λ l past turn h legal.
     let ss = c.index_of.new.self in
     let at = c.in_ok-at.ensures in
     let s = c.at-start.result.now in
-    let same = out-same past by.place c.args.call.now (shown j.firm.volume) c.in-Some.fresh o h.volume c.in-Some.ensures.some c.in_ok-outcome.ensures in
+    let same = out-same past by.place c.args.answered.now.call.now (shown j.firm.volume) c.in-Some.fresh o h.volume c.in-Some.ensures.some c.in_ok-outcome.ensures in
     let own = own-at past j h ss at.count at.owed at.pending by.clerk by.boot c.in_ok-at.at s at.found at.within c.at-start.ensures in
-    call-broken c.args.most past by.place by.clerk by.boot c.args.call.now c.args.answer.now c.args.op.now s.pending.0 s.owed o own.count own.owed same c.in-Some-2.rule
-    (subst (λ n. BreaksRule n (due_of s.owed o c.args.call.now) c.args.most o c.args.answer.now c.args.op.now c.in-Some-2.rule) c.count-count.ensures (rw c.in-Some-2.is at c.in_ok-rule.ensures))
+    call-broken c.args.most past by.place by.clerk by.boot c.args.answered.now.call.now c.args.answered.now.answer.now c.args.answered.now.op.now s.pending.0 s.owed o own.count own.owed same c.in-Some-2.rule
+    (subst (λ n. BreaksRule n (due_of s.owed o c.args.answered.now.call.now) c.args.most o c.args.answered.now.answer.now c.args.answered.now.op.now c.in-Some-2.rule) c.count-count.ensures (rw c.in-Some-2.is at c.in_ok-rule.ensures))
 
 pub note_at-requires-clause-next : goal.note_at-requires-clause-next
 note_at-requires-clause-next c = λ t.
     let ss = c.index_of.new.self in
     let s = c.at-start.result.now in
     let o = c.in_ok-outcome.outcome in
-    let rules = subst (λ n. KeepsRules n (due_of s.owed o c.args.call.now) c.args.most o c.args.answer.now c.args.op.now) c.count-count.ensures (rw c.in_default-2.is at c.in_ok-rule.ensures) in
-    subst (λ (x : Start). IsNumbered x.pending.0 c.args.op.now) (sym (same-at ss c.in_ok-at.at t s c.in_ok-at.ensures.within ∙ sym c.at-start.ensures)) rules.number
+    let rules = subst (λ n. KeepsRules n (due_of s.owed o c.args.answered.now.call.now) c.args.most o c.args.answered.now.answer.now c.args.answered.now.op.now) c.count-count.ensures (rw c.in_default-2.is at c.in_ok-rule.ensures) in
+    subst (λ (x : Start). IsNumbered x.pending.0 c.args.answered.now.op.now) (sym (same-at ss c.in_ok-at.at t s c.in_ok-at.ensures.within ∙ sym c.at-start.ensures)) rules.number
 
 pub keep-requires : goal.keep-requires
 keep-requires c =
     let ready = c.requires.ready 0 in
-    out-fits (shown c.args.self.now.firm.volume) c.args.call.now c.in-Some.fresh c.args.issuer.now.place c.in_ok-outcome.outcome c.in-Some.ensures.some c.in_ok-outcome.ensures ready.formed ready.gone ready.bounded
+    out-fits (shown c.args.self.now.firm.volume) c.args.answered.now.call.now c.in-Some.fresh c.args.issuer.now.place c.in_ok-outcome.outcome c.in-Some.ensures.some c.in_ok-outcome.ensures ready.formed ready.gone ready.bounded
 
 pub returns : goal.returns
 returns c = λ l past turn h legal.
     let j = c.args.self.now in
     let by = c.args.issuer.now in
-    let cl = c.args.call.now in
-    let a = c.args.answer.now in
-    let op = c.args.op.now in
+    let cl = c.args.answered.now.call.now in
+    let a = c.args.answered.now.answer.now in
+    let op = c.args.answered.now.op.now in
     let o = c.in_ok-outcome.outcome in
     let ss = c.index_of.new.self in
     let at = c.in_ok-at.ensures in

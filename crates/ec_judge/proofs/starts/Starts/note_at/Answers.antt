@@ -9,4 +9,4 @@ pub invariant_of-self : goal.invariant_of-self
 invariant_of-self c = index-same (indexed c.self.inside.index) c.self.inside.items.items c.note_at.new.starts.items c.self.invariant c.note_at.ensures.same
 
 pub note_at-requires-clause-next : goal.note_at-requires-clause-next
-note_at-requires-clause-next c s = subst (λ l. IsNumbered (slice_index_or l c.args.at s).pending.0 c.args.op.now) (sym c.self.view_is) (c.requires.next s)
+note_at-requires-clause-next c s = subst (λ l. IsNumbered (slice_index_or l c.args.at s).pending.0 c.args.answered.now.op.now) (sym c.self.view_is) (c.requires.next s)
