@@ -15,6 +15,8 @@ mod links;
 #[cfg(test)]
 mod nodes;
 #[cfg(test)]
+mod refusing;
+#[cfg(test)]
 mod runs;
 #[cfg(test)]
 mod serving;
