@@ -1,23 +1,25 @@
 -- A mounted clerk's run begins with the greeting of its start.
-use Rattle.std.proofs.Common.{◌≡◌, refl, sym, ap, subst, ◌∙◌, ℕ, Bool, true, false, List, [], ◌∷◌, ◌++◌, Option, Some, None}
+use Rattle.std.proofs.Common.{◌≡◌, ◌⊎◌, refl, sym, ap, subst, inl, inr, ◌∙◌, ℕ, zero, suc, Bool, true, false, List, [], ◌∷◌, ◌++◌, map, take, Option, Some, None}
 use Rattle.std.specs.Prelude.{nat_lt}
 use Rattle.ec_base.specs.Limits.{last_counter}
 use Rattle.ec_base.specs.declared.counter.Counter.{Counter}
 use Rattle.ec_base.specs.declared.counter.Counter.TheVariants as counter
+use Rattle.ec_wire.specs.declared.msg.Msg.{Msg}
 use Rattle.ec_wire.specs.declared.msg.Msg.TheVariants.{Hello}
 use Rattle.ec_protocol.specs.Clerk.{Doing, doing, hello, new_clerk, spend, start}
 use Rattle.ec_protocol.specs.declared.clerk.Out.{Out}
 use Rattle.ec_protocol.specs.declared.clerk.Out.TheVariants as out
 use Rattle.ec_link.specs.Nets.{Ended}
+use Rattle.ec_wire.specs.Codes.{msg_code}
 use Rattle.ec_clerknode.specs.declared.step.Step.{Step}
 use Rattle.ec_clerknode.specs.Parts.{parts}
 use Rattle.ec_clerknode.specs.Run.{said_by}
 use Rattle.ec_clerknode.proofs.Parts.{some_parts}
 use Rattle.ec_mount.specs.Mount.{Mounts, Outside}
-use Rattle.ec_mount.specs.Run.{NetSeen, Ran, AreTold}
+use Rattle.ec_mount.specs.Run.{NetSeen, Ran, AreTold, AreUnsent}
 use Rattle.ec_mount.specs.declared.status.Status.{Status}
 use Rattle.ec_mount.specs.declared.status.Status.TheVariants as status
-use Rattle.ec_echo.specs.Greeting.{GotGreeting, Greets, IsFirstTold, greeting_of}
+use Rattle.ec_echo.specs.Greeting.{GotAtMost, GotGreeting, Greets, IsFirstTold, greeting_of}
 use Rattle.ec_base.specs.Lists.{Tells}
 
 -- a start that spends no counter greets, and no more
@@ -41,12 +43,25 @@ first-link : (body : List ℕ) (links : List Ended) (p : List Step) (ps : List (
 first-link body [] p ps a = absurd a
 first-link body (e ∷ es) p ps a = (e, es, refl, first-told body (said_by p) e.1 a.1)
 
+front-told : (m : Msg) (n : ℕ) (got : Option (List (List ℕ))) → Tells got (map (λ (m : Msg). msg_code.spell m) (take n (m ∷ []))) → Tells got [] ⊎ Tells got (msg_code.spell m ∷ [])
+front-told m zero got told = inl told
+front-told m (suc zero) got told = inr told
+front-told m (suc (suc n)) got told = inr told
+
+-- links that failed before they took the message got no more
+at-most : (m : Msg) (links : List Ended) → AreUnsent (out.Send m ∷ []) links → GotAtMost (msg_code.spell m) links
+at-most m [] a = tt
+at-most m (e ∷ es) a = (a.0, front-told m a.1.0 e.1 a.1.1, at-most m es a.2)
+
 ran-greets : (id boot : ℕ) (before after : NetSeen) (steps : List Step) → Ran id boot before after steps → GotGreeting id boot before after
 ran-greets id boot before after steps r = record {
+  failed = r.unsent;
+  few = at-most (Hello id (record { boot = boot; round = 0 })) r.unsent (rw greets at r.mute);
+  bad = r.bad;
   given = one.0.0;
   got = one.0.1;
   more = one.1;
-  ended = r.ended ∙ ap (λ l. before.ended ++ l) one.2;
+  ended = r.ended ∙ ap (λ l. before.ended ++ (r.unsent ++ l)) one.2;
   first = one.3;
 }
   where

@@ -154,8 +154,15 @@ fn tells_a_greater_boot(rt: HostRuntime) {
     assert!(rt; are_well(&rt, "serve here 2", Mounts::Two));
 }
 
-// Takes a link at the address, and lets it go.
-fn lets_go<R: Around>(rt: &R, net: &mut MemNet) -> bool {
+// When a server lets a link go.
+#[derive(Clone, Copy, Drop)]
+enum Goes {
+    AtOnce,
+    Greeted,
+}
+
+// Takes a link at the address, and lets it go. A greeting may come meanwhile, or can't be sent.
+fn lets_go<R: Around>(rt: &R, net: &mut MemNet, goes: Goes) -> bool {
     let Ok(mut door) = net.listen(rt, "here") else {
         return false;
     };
@@ -163,23 +170,29 @@ fn lets_go<R: Around>(rt: &R, net: &mut MemNet) -> bool {
         drop(door);
         return false;
     };
-    // Its greeting comes meanwhile: a first link over which that can't be sent ends a mount.
-    thread::sleep(rt, Duration::from_millis(500));
+    match goes {
+        Goes::AtOnce => {}
+        Goes::Greeted => thread::sleep(rt, Duration::from_millis(500)),
+    }
     link.hang_up();
     drop(link);
     drop(door);
     true
 }
 
-// A mount whose first link goes, and a server that comes then.
-fn are_linked_again<R: Around + Eprint>(rt: &R) -> bool {
+// A mount whose first links go, and a server that comes then.
+fn are_linked_again<R: Around + Eprint>(rt: &R, goes: Goes) -> bool {
     let Ok((mut net, other)) = shared_net(rt.alloc()) else {
         return false;
     };
     let mut spawner = Spawner::Threads(ThreadSpawner::new());
     let (is_served, is_mounted) = thread::join(
         rt,
-        || lets_go(rt, &mut net) && is_served(rt, "serve here 1", &mut net, &mut spawner, 0),
+        || {
+            lets_go(rt, &mut net, goes)
+                && lets_go(rt, &mut net, goes)
+                && is_served(rt, "serve here 1", &mut net, &mut spawner, 0)
+        },
         || is_answered(rt, other),
     );
     drop(net);
@@ -190,5 +203,11 @@ fn are_linked_again<R: Around + Eprint>(rt: &R) -> bool {
 #[test]
 fn links_again(rt: HostRuntime) {
     drop::<NetTypes>((None, None));
-    assert!(rt; are_linked_again(&rt));
+    assert!(rt; are_linked_again(&rt, Goes::Greeted));
+}
+
+#[test]
+fn links_again_before_it_greeted(rt: HostRuntime) {
+    drop::<NetTypes>((None, None));
+    assert!(rt; are_linked_again(&rt, Goes::AtOnce));
 }

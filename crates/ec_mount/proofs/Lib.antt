@@ -3,6 +3,7 @@ pub mod Passing
 pub mod Joined
 pub mod Parts
 pub mod Linking
+pub mod Unsent
 pub mod Running
 pub mod Texts
 pub mod Rows

@@ -26,13 +26,13 @@ use Rattle.ec_clerknode.specs.RunEnds.{nets}
 use Rattle.ec_clerknode.specs.Turns.{number_of}
 use Rattle.ec_clerknode.specs.PassTurns.{Finished}
 use Rattle.ec_clerknode.proofs.Lists.{prefix_get}
-use Rattle.ec_clerknode.proofs.Parts.{part_whole, parts_more, has_two, has_parts}
+use Rattle.ec_clerknode.proofs.Parts.{part_whole, parts_more, some_parts, has_two, has_parts}
 use Rattle.ec_outs.proofs.Told.{added-nil}
-use Rattle.ec_mount.specs.Run.{NetSeen, AreTold, Ran, Holds, HoldsFronts, Has, Met, Lost, Spends, Unheard}
+use Rattle.ec_mount.specs.Run.{NetSeen, AreTold, CameUnsent, LostUnsent, Ran, Holds, HoldsFronts, Has, Met, Lost}
 use Rattle.ec_mount.specs.RunsAlone.{RanAlone}
 use Rattle.ec_mount.specs.Run as run
 use Rattle.ec_mount.specs.Calls.{HoldsAll, FrontsStand, IfSaid, CallsEnd, Called}
-use Rattle.ec_mount.specs.Work.{Given, LinkSeen, RanOver, Cut, TellsAnswer, UnlessWanting, Concludes, last_answer, RunsOver, WorksOver, Works, WorksTo}
+use Rattle.ec_mount.specs.Work.{Given, LinkSeen, RanOver, Cut, TellsAnswer, UnlessWanting, Concludes, last_answer, RunsOver, Took, NotGreeted, CameBack, WorksOver, Works, WorksTo}
 use Rattle.ec_mount.specs.Linking.{AreToldFrom, HasLinked, nets_in}
 use Rattle.ec_mount.proofs.Causes.{has_longer, net_counted}
 use Rattle.ec_mount.proofs.Linking.{whole_now, told_now, told_behind, told_all, told_from, nets_parts, nets_last, some_of, bad_of}
@@ -119,7 +119,7 @@ module _ {L : Type 0} (lock : TracedLock (Node L) Step) (old called closed : Pas
 
   module _ (counts : L → ℕ) (given : L → Option (List Heard)) (got : L → Option (List (List ℕ))) (first : Node L) (clerk : Clerk) (link back : L) (is_clerk : first.clerk ≡ clerk) (is_link : first.link ≡ link)
       (before after : NetSeen) (by : LinksBy (Some 1) (front closed)) where
-    ran_over : (k : Clerk) → HasLinked counts given got first called before after → Finished counts given got first (front closed) (Some k) back → AreSaid (front closed) → RanOver clerk [] (seen_of counts given got link) (seen_of counts given got back) before after (front closed)
+    ran_over : (k : Clerk) → HasLinked counts given got first called before after → Finished counts given got first (front closed) (Some k) back → AreSaid (front closed) → RanOver clerk (seen_of counts given got link) (seen_of counts given got back) before after (front closed)
     ran_over k l f said =
         let zs = front closed in
         let h = l.handed in
@@ -143,10 +143,10 @@ module _ {L : Type 0} (lock : TracedLock (Node L) Step) (old called closed : Pas
         }
 
     pub runs_over : (k : Option Clerk) (told : List (List ℕ)) (boot : Option Age) (given_all : Given) → HasLinked counts given got first called before after → Finished counts given got first (front closed) k back → IfSome k (λ _. AreSaid (front closed)) → IfSome k (λ _. told ≡ told_by (front closed))
-        → boot ≡ old_boot (front closed) → Concludes k told boot all made given_all → RunsOver clerk [] lanes (seen_of counts given got link) (seen_of counts given got back) before after given_all
+        → boot ≡ old_boot (front closed) → Concludes k told boot all made given_all → RunsOver clerk lanes (seen_of counts given got link) (seen_of counts given got back) before after given_all
     runs_over None told boot r l f said t b h =
-        subst (λ x. UnlessWanting x ((steps : List Step) × RanOver clerk [] (seen_of counts given got link) (seen_of counts given got back) before after steps × TellsAnswer lanes steps r.0 r.1 x)) (sym h) tt
-    runs_over (Some k) told boot r l f said t b h = subst (λ x. RunsOver clerk [] lanes (seen_of counts given got link) (seen_of counts given got back) before after x) (sym h)
+        subst (λ x. UnlessWanting x ((steps : List Step) × RanOver clerk (seen_of counts given got link) (seen_of counts given got back) before after steps × TellsAnswer lanes steps r.0 r.1 x)) (sym h) tt
+    runs_over (Some k) told boot r l f said t b h = subst (λ x. RunsOver clerk lanes (seen_of counts given got link) (seen_of counts given got back) before after x) (sym h)
         (unless (last_answer boot made) _ (front closed, ran_over k l f said, tells told t boot b boot refl))
 
 -- The link is left, which changes nothing that is told of it.
@@ -158,89 +158,129 @@ seen_same : (a b : ℕ) (g h : Option (List Heard)) (s t : Option (List (List �
 seen_same a b g h s t e f k = subst (λ n. link_seen a g s ≡ link_seen n h t) e (subst (λ x. link_seen a g s ≡ link_seen a x t) f (subst (λ x. link_seen a g s ≡ link_seen a g x) k refl))
 
 pub runs_left : {L : Type 0} (faults closes : L → ℕ) (given : L → Option (List Heard)) (got : L → Option (List (List ℕ))) (clerk : Clerk) (lanes : List (List Call)) (old : LinkSeen) (before after : NetSeen) (back link left : L) (r : Given) → link ≡ back → (faults left ≡ faults link) × (closes left ≡ closes link)
-    → (given left ≡ given link) × (got left ≡ got link) → RunsOver clerk [] lanes old (seen_of (λ l. faults l + closes l) given got back) before after r → RunsOver clerk [] lanes old (seen_of (λ l. faults l + closes l) given got left) before after r
+    → (given left ≡ given link) × (got left ≡ got link) → RunsOver clerk lanes old (seen_of (λ l. faults l + closes l) given got back) before after r → RunsOver clerk lanes old (seen_of (λ l. faults l + closes l) given got left) before after r
 runs_left faults closes given got clerk lanes old before after back link left r is counts bodies h =
     let same : seen_of (λ l. faults l + closes l) given got back ≡ seen_of (λ l. faults l + closes l) given got left =
     sym (ap (seen_of (λ l. faults l + closes l) given got) is) ∙ seen_same (faults link + closes link) (faults left + closes left) (given link) (given left) (got link) (got left) (omega (arith, counts.0, counts.1)) (sym bodies.0) (sym bodies.1) in
-    subst (λ s. RunsOver clerk [] lanes old s before after r) same h
+    subst (λ s. RunsOver clerk lanes old s before after r) same h
 
--- Over a link that has greeted.
+-- Over a link that took the greeting, which comes back too.
 
-module _ (clerk : Clerk) (outs : List Out) (lanes : List (List Call)) (old mid new : LinkSeen) (before after : NetSeen) (same : mid.given ≡ old.given) (sent : mid.got ≡ added old.got (map encoded (sends outs))) where
-  behind : (steps : List Step) → RanOver clerk [] mid new before after steps → RanOver clerk outs old new before after steps
-  behind steps r = record {
-    run = r.run;
-    whole = r.whole;
-    links = r.links;
-    ended = r.ended;
-    told = told_behind old.given mid.given old.got mid.got (map encoded (sends outs)) (r.links ++ (new.given, new.got) ∷ []) (parts steps) same sent r.told;
-    low = r.low;
-    counted = r.counted;
-  }
+unless_so : {A : Type 0} (r : Result A NodeFault) (P Q : Type 0) → (P → Q) → UnlessWanting r P → UnlessWanting r Q
+unless_so (Ok x) P Q f p = f p
+unless_so (Err fault.Net) P Q f p = f p
+unless_so (Err (fault.Peer why)) P Q f p = f p
+unless_so (Err (fault.Long n)) P Q f p = f p
+unless_so (Err (fault.OldBoot age)) P Q f p = f p
+unless_so (Err (fault.Spent k)) P Q f p = f p
+unless_so (Err fault.NoMemory) P Q f p = tt
 
-  behind_all : (all : List (List Reply)) (told : List (List ℕ)) (last : Result Reply NodeFault) → RunsOver clerk [] lanes mid new before after (all, told, last) → RunsOver clerk outs lanes old new before after (all, told, last)
-  behind_all all told (Ok x) r = (r.0, behind r.0 r.1, r.2)
-  behind_all all told (Err fault.Net) r = (r.0, behind r.0 r.1, r.2)
-  behind_all all told (Err (fault.Peer why)) r = (r.0, behind r.0 r.1, r.2)
-  behind_all all told (Err (fault.Long n)) r = (r.0, behind r.0 r.1, r.2)
-  behind_all all told (Err (fault.OldBoot age)) r = (r.0, behind r.0 r.1, r.2)
-  behind_all all told (Err (fault.Spent k)) r = (r.0, behind r.0 r.1, r.2)
-  behind_all all told (Err fault.NoMemory) r = tt
+module _ (clerk : Clerk) (outs : List Out) (lanes : List (List Call)) (before greeted ran after : NetSeen) (faults closes : ℕ) (old new : LinkSeen) (came : CameUnsent outs before greeted) (took : Took outs old.given old.got)
+    (counts : new.counts ≡ faults + closes) (bad : after.bad ≡ ran.bad + is_bad faults closes) (ended : after.ended ≡ ran.ended ++ (new.given, new.got) ∷ []) where
+  module _ (steps : List Step) (r : RanOver clerk old new greeted ran steps) where
+    all_ended : after.ended ≡ before.ended ++ (came.links ++ (r.links ++ (new.given, new.got) ∷ []))
+    all_ended =
+        let last = (new.given, new.got) ∷ [] in
+        ended ∙ (ap (λ l. l ++ last) (r.ended ∙ ap (λ l. l ++ r.links) came.ended) ∙ (append_assoc (before.ended ++ came.links) r.links last ∙ append_assoc before.ended came.links (r.links ++ last)))
 
-  pub greeted : (given : Given) → RunsOver clerk [] lanes mid new before after given → RunsOver clerk outs lanes old new before after given
-  greeted given r = behind_all given.0 given.1 given.2 r
+    all_told : AreTold (map encoded (sends outs)) (r.links ++ (new.given, new.got) ∷ []) (parts steps)
+    all_told =
+        let links = r.links ++ (new.given, new.got) ∷ [] in
+        let start = map encoded (sends outs) in
+        told_all old.given took.0 start links (parts steps) took.1 took.2 (told_behind old.given old.given took.0 old.got start links (parts steps) refl took.3 r.told)
+
+    -- a link was bad
+    rose : 0 < nets steps → before.bad < after.bad
+    rose some =
+        let low = r.low in
+        let few = came.bad in
+        ⊎_elim (λ (m : greeted.bad < ran.bad). omega (arith, bad, few, m)) (λ (n : 0 < new.counts). omega (arith, bad, few, low, bad_of faults closes (omega (arith, n, counts)))) (r.counted some)
+
+    came_back : CameBack clerk outs before after steps
+    came_back =
+        let low = r.low in
+        let few = came.bad in
+        record {
+          run = r.run;
+          whole = r.whole;
+          unsent = came.links;
+          mute = came.unsent;
+          bad = omega (arith, few, low, bad);
+          links = r.links ++ (new.given, new.got) ∷ [];
+          ended = all_ended;
+          told = all_told;
+          counted = rose;
+        }
+
+  pub works_over : (given : Given) → RunsOver clerk lanes old new greeted ran given → WorksOver clerk outs lanes before after given
+  works_over given r =
+      inr (unless_so given.2 ((steps : List Step) × RanOver clerk old new greeted ran steps × TellsAnswer lanes steps given.0 given.1 given.2) ((steps : List Step) × CameBack clerk outs before after steps × TellsAnswer lanes steps given.0 given.1 given.2)
+      (λ w. (w.0, came_back w.0 w.1, w.2)) r)
+
+-- no link took the greeting
+pub works_not : (clerk : Clerk) (outs : List Out) (lanes : List (List Call)) (before after : NetSeen) (f : NodeFault) → NotGreeted outs before after f → WorksOver clerk outs lanes before after ([], [], Err f)
+works_not clerk outs lanes before after fault.Net l = inl (refl, l)
+works_not clerk outs lanes before after (fault.Peer why) l = absurd l
+works_not clerk outs lanes before after (fault.Long n) l = absurd l
+works_not clerk outs lanes before after (fault.OldBoot age) l = absurd l
+works_not clerk outs lanes before after (fault.Spent k) l = absurd l
+works_not clerk outs lanes before after fault.NoMemory l = inr tt
 
 -- Over the net.
 
-module _ (id boot : ℕ) (clerk : Clerk) (outs : List Out) (lanes : List (List Call)) (before called mid after : NetSeen) (faults closes : ℕ) (old new : LinkSeen)
-    (starts : start id boot ≡ record { clerk = clerk; outs = outs; spent = None }) (none_given : IsEmpty old.given) (none_got : IsEmpty old.got) (counts : new.counts ≡ faults + closes) (same : (called.bad ≡ before.bad) × (called.ended ≡ before.ended))
-    (bad : after.bad ≡ mid.bad + is_bad faults closes) (ended : after.ended ≡ mid.ended ++ (new.given, new.got) ∷ []) where
-  ran : (steps : List Step) → RanOver clerk outs old new called mid steps → Ran id boot before after steps
-  ran steps r = record {
-    clerk = clerk;
-    outs = outs;
-    starts = starts;
-    run = r.run;
-    whole = r.whole;
-    links = r.links ++ (new.given, new.got) ∷ [];
-    ended = ended ∙ (ap (λ l. l ++ (new.given, new.got) ∷ []) (r.ended ∙ ap (λ l. l ++ r.links) same.1) ∙ append_assoc before.ended r.links ((new.given, new.got) ∷ []));
-    told = told_all old.given old.got (map encoded (sends outs)) (r.links ++ (new.given, new.got) ∷ []) (parts steps) none_given none_got r.told;
-  }
+module _ (id boot : ℕ) (clerk : Clerk) (outs : List Out) (lanes : List (List Call)) (before called after : NetSeen) (starts : start id boot ≡ record { clerk = clerk; outs = outs; spent = None })
+    (same : (called.bad ≡ before.bad) × (called.ended ≡ before.ended)) where
+  ran : (steps : List Step) → CameBack clerk outs called after steps → Ran id boot before after steps
+  ran steps r =
+      let few = r.bad in
+      let low = same.0 in
+      record {
+        clerk = clerk;
+        outs = outs;
+        starts = starts;
+        run = r.run;
+        whole = r.whole;
+        unsent = r.unsent;
+        mute = r.mute;
+        bad = omega (arith, few, low);
+        links = r.links;
+        ended = r.ended ∙ ap (λ l. l ++ (r.unsent ++ r.links)) same.1;
+        told = r.told;
+      }
 
-  met : (steps : List Step) (f : NodeFault) (all : List (List Reply)) (told : List (List ℕ)) → RanOver clerk outs old new called mid steps → Cut lanes steps all told f → Met id boot lanes before after f all told
+  met : (steps : List Step) (f : NodeFault) (all : List (List Reply)) (told : List (List ℕ)) → CameBack clerk outs called after steps → Cut lanes steps all told f → Met id boot lanes before after f all told
   met steps f all told r c = record { steps = steps; ran = ran steps r; old_boot = c.old_boot; has = c.has; came = c.came; told_is = c.told_is }
 
-  -- a link was bad
-  rose : (steps : List Step) → RanOver clerk outs old new called mid steps → 0 < nets steps → before.bad < after.bad
-  rose steps r some =
-      let low = r.low in
-      ⊎_elim (λ (m : called.bad < mid.bad). omega (arith, bad, same.0, m)) (λ (n : 0 < new.counts). omega (arith, bad, same.0, low, bad_of faults closes (omega (arith, n, counts)))) (r.counted some)
+  rises : (steps : List Step) → CameBack clerk outs called after steps → 0 < nets steps → before.bad < after.bad
+  rises steps r some = let more = r.counted some in let low = same.0 in omega (arith, more, low)
 
-  worked : (all : List (List Reply)) (told : List (List ℕ)) (last : Result Reply NodeFault) → RunsOver clerk outs lanes old new called mid (all, told, last) → WorksTo id boot lanes before after all told last
+  worked : (all : List (List Reply)) (told : List (List ℕ)) (last : Result Reply NodeFault) → UnlessWanting last ((steps : List Step) × CameBack clerk outs called after steps × TellsAnswer lanes steps all told last) → WorksTo id boot lanes before after all told last
   worked all told (Ok x) r = (r.0, ran r.0 r.1, r.2)
-  worked all told (Err fault.Net) r = inr (rose r.0 r.1 (net_counted r.0 r.2.has), inr (met r.0 fault.Net all told r.1 r.2))
+  worked all told (Err fault.Net) r = inr (rises r.0 r.1 (net_counted r.0 r.2.has), inr (met r.0 fault.Net all told r.1 r.2))
   worked all told (Err (fault.Peer why)) r = met r.0 (fault.Peer why) all told r.1 r.2
   worked all told (Err (fault.Long n)) r = met r.0 (fault.Long n) all told r.1 r.2
   worked all told (Err (fault.OldBoot age)) r = (r.0, ran r.0 r.1, r.2)
   worked all told (Err (fault.Spent k)) r = inr (met r.0 (fault.Spent k) all told r.1 r.2)
   worked all told (Err fault.NoMemory) r = tt
 
-  unheard : new.given ≡ old.given → mid ≡ called → Unheard before after
-  unheard e still = (
-    new.given,
-    new.got,
-    ended ∙ ap (λ l. l ++ (new.given, new.got) ∷ []) (ap (λ (n : NetSeen). n.ended) still ∙ same.1),
-    told_from old.given new.given [] none_given (e ∙ sym (added-nil old.given)),
-  )
+  lost : LostUnsent outs called after → Lost id boot lanes before after [] []
+  lost l =
+      let c = l.0 in
+      let some = l.1 in
+      let few = c.bad in
+      let low = same.0 in
+      inr (
+        omega (arith, some, few, low),
+        inl (
+          (clerk, outs, starts, (record { links = c.links; unsent = c.unsent; ended = c.ended ∙ ap (λ l. l ++ c.links) same.1; bad = omega (arith, few, low) }, some)),
+          (refl, refl),
+        ),
+      )
 
-  lost : 0 < new.counts → mid ≡ called → before.bad < after.bad
-  lost some still = omega (arith, bad, same.0, ap (λ (n : NetSeen). n.bad) still, bad_of faults closes (omega (arith, some, counts)))
-
-  pub works : (given : Given) → WorksOver clerk outs lanes old new called mid given → Works id boot lanes before after given
+  pub works : (given : Given) → WorksOver clerk outs lanes called after given → Works id boot lanes before after given
   works given h =
-      ⊎_elim
-      (λ (a : (given ≡ ([], [], Err fault.Net)) × (0 < new.counts) × (new.given ≡ old.given) × (mid ≡ called)). subst (Works id boot lanes before after) (sym a.0) (inr (lost a.1 a.3, inl (unheard a.2 a.3, (refl, refl)))))
-      (λ (b : RunsOver clerk outs lanes old new called mid given). worked given.0 given.1 given.2 b)
+      ⊎_elim (λ (a : (given ≡ ([], [], Err fault.Net)) × LostUnsent outs called after). subst (Works id boot lanes before after) (sym a.0) (lost a.1))
+      (λ (b : UnlessWanting given.2 ((steps : List Step) × CameBack clerk outs called after steps × TellsAnswer lanes steps given.0 given.1 given.2)). worked given.0 given.1 given.2 b)
       h
 
 -- Where one link came back, without an exchange, that is the one.
@@ -253,31 +293,27 @@ alone_of start (e ∷ f ∷ fs) steps a = absurd a.2
 one_part : (steps : List Step) → has_link steps ≡ false → parts steps ≡ steps ∷ []
 one_part steps none = parts_more [] steps [] none refl ∙ ap (λ p. p ∷ []) (part_whole steps none)
 
-pub ran_alone : (id boot : ℕ) (before after : NetSeen) (steps : List Step) → has_link steps ≡ false → Ran id boot before after steps → RanAlone id boot before after steps
-ran_alone id boot before after steps none r =
+ran_alone : (id boot : ℕ) (before after : NetSeen) (steps : List Step) → has_link steps ≡ false → (r : Ran id boot before after steps) → r.unsent ≡ [] → RanAlone id boot before after steps
+ran_alone id boot before after steps none r first =
     let one = alone_of (map encoded (sends r.outs)) r.links steps (subst (AreTold (map encoded (sends r.outs)) r.links) (one_part steps none) r.told) in
-    record { clerk = r.clerk; outs = r.outs; starts = r.starts; run = r.run; whole = r.whole; given = one.0; got = one.1; ended = r.ended ∙ ap (λ l. before.ended ++ l) one.2; heard = one.3; sent = one.4 }
+    record { clerk = r.clerk; outs = r.outs; starts = r.starts; run = r.run; whole = r.whole; given = one.0; got = one.1; ended = r.ended ∙ ap (λ l. before.ended ++ l) (ap (λ l. l ++ r.links) first ∙ one.2); heard = one.3; sent = one.4 }
 
 two_none : (start : List (List ℕ)) (e : Ended) (ps : List (List Step)) → AreTold start (e ∷ []) ps → has_two ps ≡ false
 two_none start e [] a = refl
 two_none start e (p ∷ []) a = refl
 two_none start e (p ∷ q ∷ qs) a = absurd a.2
 
--- where one link came back, none was exchanged
+one_of : (start : List (List ℕ)) (unsent links : List Ended) (ps : List (List Step)) (e : Ended) → unsent ++ links ≡ e ∷ [] → AreTold start links ps → (p : List Step) × (qs : List (List Step)) × (ps ≡ p ∷ qs) → (unsent ≡ []) × (links ≡ e ∷ [])
+one_of start [] links ps e is a some = (refl, is)
+one_of start (u ∷ us) [] [] e is a some = absurd (cc some.2)
+one_of start (u ∷ us) [] (p ∷ qs) e is a some = absurd a
+one_of start (u ∷ []) (l ∷ ls) ps e is a some = absurd (cc is)
+one_of start (u ∷ v ∷ us) (l ∷ ls) ps e is a some = absurd (cc is)
+
+-- where one link came back, it took the greeting and none was exchanged
 pub ran_one : (id boot : ℕ) (before after : NetSeen) (steps : List Step) (e : Ended) → after.ended ≡ before.ended ++ e ∷ [] → Ran id boot before after steps → RanAlone id boot before after steps
 ran_one id boot before after steps e one r =
     let start = map encoded (sends r.outs) in
-    let links : r.links ≡ e ∷ [] = append_cancel_left before.ended r.links (e ∷ []) (sym r.ended ∙ one) in
-    ran_alone id boot before after steps (has_parts steps ∙ two_none start e (parts steps) (subst (λ l. AreTold start l (parts steps)) links r.told)) r
-
--- Over a link that greeted first.
-
-pub sent_all : (n : ℕ) (old bell new : Option (List (List ℕ))) (outs shown : List Out) → shown ≡ outs → bell ≡ old → new ≡ added bell (map encoded (take n (sends shown))) → n ≡ length (sends shown) → new ≡ added old (map encoded (sends outs))
-sent_all n old bell new outs shown same was e is =
-    subst (λ o. new ≡ added o (map encoded (sends outs))) was
-    (subst (λ l. new ≡ added bell (map encoded (sends l))) same (e ∙ ap (λ l. added bell (map encoded l)) (ap (λ k. take k (sends shown)) is ∙ all-taken (sends shown))))
-
--- what a run says that came back
-pub some_greeted : {L A : Type 0} (P Q : L → Given → Type 0) (seen : A → Given) (o : Option (L × A)) → ((l : L) (r : Given) → P l r → Q l r) → IfSome o (λ r. P r.0 (seen r.1)) → IfSome o (λ r. Q r.0 (seen r.1))
-some_greeted P Q seen None f p = tt
-some_greeted P Q seen (Some r) f p = f r.0 (seen r.1) p
+    let all : r.unsent ++ r.links ≡ e ∷ [] = append_cancel_left before.ended (r.unsent ++ r.links) (e ∷ []) (sym r.ended ∙ one) in
+    let found = one_of start r.unsent r.links (parts steps) e all r.told (some_parts steps) in
+    ran_alone id boot before after steps (has_parts steps ∙ two_none start e (parts steps) (subst (λ l. AreTold start l (parts steps)) found.1 r.told)) r found.0

@@ -1,5 +1,5 @@
 -- The run of a mounted clerk, and what the net has of it.
-use Rattle.std.specs.Prelude.{◌≡◌, ◌<◌, ◌⊎◌, ℕ, List, [], ◌∷◌, ◌++◌, map, Option, Some, None}
+use Rattle.std.specs.Prelude.{◌≡◌, ◌<◌, ◌≤◌, ◌+◌, ◌⊎◌, ℕ, List, [], ◌∷◌, ◌++◌, length, map, take, Some, None}
 use mathlib.Core.List.{IsPrefix}
 use Rattle.ec_base.specs.declared.counter.Counter.{Counter}
 use Rattle.ec_plain.specs.declared.call.Call.{Call}
@@ -10,7 +10,6 @@ use Rattle.ec_protocol.specs.Clerk.{start}
 use Rattle.ec_protocol.specs.declared.clerk.Clerk.{Clerk}
 use Rattle.ec_protocol.specs.declared.clerk.Out.{Out}
 use Rattle.ec_lock.specs.Steps.{Member, Distinct, of}
-use Rattle.ec_link.specs.Links.{Heard}
 use Rattle.ec_link.specs.Nets.{Ended}
 use Rattle.ec_outs.specs.Outs.{Reply, encoded, sends}
 use Rattle.ec_clerknode.specs.declared.fault.NodeFault.{NodeFault}
@@ -35,7 +34,20 @@ AreTold start (e ∷ es) (p ∷ ps) = Tells e.0 (heard_by p) × Tells e.1 (start
 AreTold start [] (p ∷ ps) = ⊥
 AreTold start (e ∷ es) [] = ⊥
 
--- The steps of a clerk from its start with this boot, in none of which memory was wanting. The links that came back are those of their parts, in order. Each gave,
+-- Each link gave nothing, and got a front of these messages alone.
+abbrev pub AreUnsent : List Out → List Ended → Type 0
+AreUnsent outs [] = Unit {0}
+AreUnsent outs (e ∷ es) = Tells e.0 [] × ((n : ℕ) × Tells e.1 (map encoded (take n (sends outs)))) × AreUnsent outs es
+
+-- links came back, each of which failed or was closed before it took these messages
+pub record CameUnsent (outs : List Out) (before after : NetSeen) : Type 0 where
+  pub links : List Ended
+  pub unsent : AreUnsent outs links
+  pub ended : after.ended ≡ before.ended ++ links
+  pub bad : before.bad + length links ≤ after.bad
+
+-- The steps of a clerk from its start with this boot, in none of which memory was wanting. The links that came back are first those that failed or were
+-- closed before they took the messages of the start, which are mostly none, and then those of the parts of the steps, in order. Each of these gave,
 -- in order, the messages that the steps of its part take, with the bodies and lengths of their marks, and got those that these steps sent, the first one behind the messages of the start.
 pub record Ran (id boot : ℕ) (before after : NetSeen) (steps : List Step) : Type 0 where
   pub clerk : Clerk
@@ -43,8 +55,11 @@ pub record Ran (id boot : ℕ) (before after : NetSeen) (steps : List Step) : Ty
   pub starts : start id boot ≡ record { clerk = clerk; outs = outs; spent = None }
   pub run : IsRun clerk steps
   pub whole : AreSaid steps
+  pub unsent : List Ended
+  pub mute : AreUnsent outs unsent
+  pub bad : before.bad + length unsent ≤ after.bad
   pub links : List Ended
-  pub ended : after.ended ≡ before.ended ++ links
+  pub ended : after.ended ≡ before.ended ++ (unsent ++ links)
   pub told : AreTold (map encoded (sends outs)) links (parts steps)
 
 -- The steps hold the calls of lanes, each lane's by a pass of its own, in order and each once, with these answers. Behind all of them the pass `own`
@@ -101,18 +116,22 @@ pub record Met (id boot : ℕ) (lanes : List (List Call)) (before after : NetSee
 abbrev pub NothingCame : List (List Reply) → List (List ℕ) → Type 0
 NothingCame all told = (all ≡ []) × (told ≡ [])
 
--- the link came back and had given nothing
-abbrev pub Unheard : NetSeen → NetSeen → Type 0
-Unheard before after = (given : Option (List Heard)) × (got : Option (List (List ℕ))) × (after.ended ≡ before.ended ++ (given, got) ∷ []) × Tells given []
+-- links came back, one or more, none of which took these messages
+abbrev pub LostUnsent : List Out → NetSeen → NetSeen → Type 0
+LostUnsent outs before after = (came : CameUnsent outs before after) × (0 < length came.links)
+
+-- the same of the messages of the clerk's start with this boot
+abbrev pub Unheard : ℕ → ℕ → NetSeen → NetSeen → Type 0
+Unheard id boot before after = (clerk : Clerk) × (outs : List Out) × (start id boot ≡ record { clerk = clerk; outs = outs; spent = None }) × LostUnsent outs before after
 
 -- the net gave no link
 abbrev pub Unreached : NetSeen → NetSeen → Type 0
 Unreached before after = (before.faults < after.faults) × (after.bad ≡ before.bad) × (after.ended ≡ before.ended)
 
--- Nobody was reached, or the link failed or was closed: before the clerk's first step, or in a step of its run.
+-- Nobody was reached, or a link failed or was closed: each before the clerk's first step, or one in a step of its run.
 abbrev pub Lost : ℕ → ℕ → List (List Call) → NetSeen → NetSeen → List (List Reply) → List (List ℕ) → Type 0
 Lost id boot lanes before after all told = (Unreached before after × NothingCame all told)
-    ⊎ ((before.bad < after.bad) × ((Unheard before after × NothingCame all told) ⊎ Met id boot lanes before after fault.Net all told))
+    ⊎ ((before.bad < after.bad) × ((Unheard id boot before after × NothingCame all told) ⊎ Met id boot lanes before after fault.Net all told))
 
 -- the counter was spent at the clerk's start, or in a step of its run
 abbrev pub Spends : ℕ → ℕ → List (List Call) → NetSeen → NetSeen → Counter → List (List Reply) → List (List ℕ) → Type 0

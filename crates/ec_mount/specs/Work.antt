@@ -1,11 +1,12 @@
 -- No public clause cites this module: it says what the private steps of a mount's run do.
-use Rattle.std.specs.Prelude.{◌≡◌, ◌≤◌, ◌<◌, ◌⊎◌, ℕ, List, [], ◌∷◌, ◌++◌, map, Option, Some, None, Result, Ok, Err}
+use Rattle.std.specs.Prelude.{◌≡◌, ◌≤◌, ◌<◌, ◌+◌, ◌⊎◌, ℕ, List, [], ◌∷◌, ◌++◌, length, map, Option, Some, None, Result, Ok, Err}
 use Rattle.ec_base.specs.declared.ids.Age.{Age}
 use Rattle.ec_plain.specs.declared.call.Call.{Call}
 use Rattle.ec_protocol.specs.declared.clerk.Clerk.{Clerk}
 use Rattle.ec_protocol.specs.declared.clerk.Out.{Out}
-use Rattle.ec_link.specs.Links.{Heard}
+use Rattle.ec_link.specs.Links.{Heard, added}
 use Rattle.ec_link.specs.Nets.{Ended}
+use Rattle.ec_link.specs.NetAnswers.{IsEmpty}
 use Rattle.ec_outs.specs.Outs.{Reply, encoded, sends}
 use Rattle.ec_clerknode.specs.declared.fault.NodeFault.{NodeFault}
 use Rattle.ec_clerknode.specs.declared.fault.NodeFault.TheVariants as fault
@@ -14,7 +15,7 @@ use Rattle.ec_clerknode.specs.Parts.{parts}
 use Rattle.ec_clerknode.specs.Run.{IsRun, AreSaid, told_by, old_boot}
 use Rattle.ec_clerknode.specs.RunEnds.{nets}
 use Rattle.ec_clerknode.specs.LaneRuns.{lists_of}
-use Rattle.ec_mount.specs.Run.{NetSeen, Ran, Holds, HoldsFronts, Has, Met, Lost, Spends}
+use Rattle.ec_mount.specs.Run.{NetSeen, AreTold, AreUnsent, LostUnsent, Ran, Holds, HoldsFronts, Has, Met, Lost, Spends}
 use Rattle.ec_mount.specs.Linking.{AreToldFrom}
 use Rattle.ec_mount.specs.declared.work.Answers.{Answers}
 
@@ -31,13 +32,13 @@ pub record LinkSeen : Type 0 where
   pub given : Option (List Heard)
   pub got : Option (List (List ℕ))
 
--- the links that came back before the last one, and then that one, have what these steps heard and said, behind these messages
-pub record RanOver (clerk : Clerk) (outs : List Out) (old new : LinkSeen) (before after : NetSeen) (steps : List Step) : Type 0 where
+-- the links that came back before the last one, and then that one, have what these steps heard and said
+pub record RanOver (clerk : Clerk) (old new : LinkSeen) (before after : NetSeen) (steps : List Step) : Type 0 where
   pub run : IsRun clerk steps
   pub whole : AreSaid steps
   pub links : List Ended
   pub ended : after.ended ≡ before.ended ++ links
-  pub told : AreToldFrom old.given old.got (map encoded (sends outs)) (links ++ (new.given, new.got) ∷ []) (parts steps)
+  pub told : AreToldFrom old.given old.got [] (links ++ (new.given, new.got) ∷ []) (parts steps)
   pub low : before.bad ≤ after.bad
   pub counted : 0 < nets steps → (before.bad < after.bad) ⊎ (0 < new.counts)
 
@@ -78,12 +79,38 @@ Concludes None told boot all last given = given.2 ≡ Err fault.NoMemory
 Concludes (Some c) told boot all last given = given ≡ (all, told, last_answer boot last)
 
 -- the clerk ran over links, of which the last one is left
-abbrev pub RunsOver : Clerk → List Out → List (List Call) → LinkSeen → LinkSeen → NetSeen → NetSeen → Given → Type 0
-RunsOver clerk outs lanes old new before after given = UnlessWanting given.2 ((steps : List Step) × RanOver clerk outs old new before after steps × TellsAnswer lanes steps given.0 given.1 given.2)
+abbrev pub RunsOver : Clerk → List (List Call) → LinkSeen → LinkSeen → NetSeen → NetSeen → Given → Type 0
+RunsOver clerk lanes old new before after given = UnlessWanting given.2 ((steps : List Step) × RanOver clerk old new before after steps × TellsAnswer lanes steps given.0 given.1 given.2)
 
--- the same, or the first link failed before
-abbrev pub WorksOver : Clerk → List Out → List (List Call) → LinkSeen → LinkSeen → NetSeen → NetSeen → Given → Type 0
-WorksOver clerk outs lanes old new before after given = ((given ≡ ([], [], Err fault.Net)) × (0 < new.counts) × (new.given ≡ old.given) × (after ≡ before)) ⊎ RunsOver clerk outs lanes old new before after given
+-- a new link, which gave this and got that, took these messages
+abbrev pub Took : List Out → Option (List Heard) → Option (List (List ℕ)) → Type 0
+Took outs given got = (base : Option (List (List ℕ))) × IsEmpty given × IsEmpty base × (got ≡ added base (map encoded (sends outs)))
+
+-- none took these messages, and all came back
+abbrev pub NotGreeted : List Out → NetSeen → NetSeen → NodeFault → Type 0
+NotGreeted outs before after fault.Net = LostUnsent outs before after
+NotGreeted outs before after (fault.Peer why) = ⊥
+NotGreeted outs before after (fault.Long n) = ⊥
+NotGreeted outs before after (fault.OldBoot age) = ⊥
+NotGreeted outs before after (fault.Spent c) = ⊥
+NotGreeted outs before after fault.NoMemory = Unit {0}
+
+-- all links of these steps came back, behind those that took no message of the start
+pub record CameBack (clerk : Clerk) (outs : List Out) (before after : NetSeen) (steps : List Step) : Type 0 where
+  pub run : IsRun clerk steps
+  pub whole : AreSaid steps
+  pub unsent : List Ended
+  pub mute : AreUnsent outs unsent
+  pub bad : before.bad + length unsent ≤ after.bad
+  pub links : List Ended
+  pub ended : after.ended ≡ before.ended ++ (unsent ++ links)
+  pub told : AreTold (map encoded (sends outs)) links (parts steps)
+  pub counted : 0 < nets steps → before.bad < after.bad
+
+-- a clerk greeted and ran, or no link took its greeting
+abbrev pub WorksOver : Clerk → List Out → List (List Call) → NetSeen → NetSeen → Given → Type 0
+WorksOver clerk outs lanes before after given = ((given ≡ ([], [], Err fault.Net)) × LostUnsent outs before after)
+    ⊎ UnlessWanting given.2 ((steps : List Step) × CameBack clerk outs before after steps × TellsAnswer lanes steps given.0 given.1 given.2)
 
 -- a clerk was started, run over a link of the net and ended
 abbrev pub WorksTo : ℕ → ℕ → List (List Call) → NetSeen → NetSeen → List (List Reply) → List (List ℕ) → Result Reply NodeFault → Type 0

@@ -2,6 +2,7 @@
 #![tactic(auto)]
 
 mod calls;
+mod greeting;
 mod lending;
 mod limits;
 mod linked;

@@ -69,13 +69,31 @@ impl Beside {
 
 /// When the last link ended, when the present one came, and the next pause.
 #[derive(Drop)]
-struct Linking {
+pub struct Linking {
     gone: Option<Instant>,
     up: Option<Instant>,
     rest: u64,
 }
 
 impl Linking {
+    // A link came now.
+    fn came_now<R: Clock>(rt: &R) -> Linking {
+        Linking {
+            gone: None,
+            up: Instant::now(rt).ok(),
+            rest: 0,
+        }
+    }
+
+    /// A link ended now.
+    pub fn ended_now<R: Clock>(rt: &R) -> Linking {
+        Linking {
+            gone: Instant::now(rt).ok(),
+            up: None,
+            rest: 0,
+        }
+    }
+
     // The link has ended, if one was up. Where that was for a moment alone, the time goes on from the one before.
     fn ended<R: Clock>(&mut self, rt: &R) -> bool {
         let Some(up) = self.up.take() else {
@@ -111,6 +129,12 @@ impl Linking {
         self.rest = self.rest.saturating_mul(2).clamp(FIRST_PAUSE, LAST_PAUSE);
     }
 
+    /// Waits for the next call. False where no link came for too long.
+    pub fn may_call<R: Clock>(&mut self, rt: &R) -> bool {
+        self.pause(rt);
+        !self.is_over(rt)
+    }
+
     // Calls until there is a link, or all has ended, or for too long.
     fn call_until<M: Lending, R: Around>(
         &mut self,
@@ -125,8 +149,8 @@ impl Linking {
         ensures link { IfSome result (λ link. IsEmpty (M.Link.given link) × IsEmpty (M.Link.got link)) }
     {
         for _ in rt.forever() {
-            self.pause(rt);
-            if beside.is_over() || self.is_over(rt) {
+            let may_call = self.may_call(rt);
+            if beside.is_over() || !may_call {
                 return None;
             }
             if let Ok(link) = net.call(rt, who.addr) {
@@ -227,11 +251,7 @@ pub fn link_again<M: Lending, R: Around + Eprint>(
         (record { faults = M.faults net.old; bad = M.bad net.old; ended = M.ended net.old })
         (record { faults = M.faults net.new; bad = M.bad net.new; ended = M.ended net.new })) }
 {
-    let mut linking = Linking {
-        gone: None,
-        up: Instant::now(rt).ok(),
-        rest: 0,
-    };
+    let mut linking = Linking::came_now(rt);
     clerk.lasts(rt, pass, true);
     beside.begin();
     let result = keep_linked(rt, who, clerk, pass, net, beside, &mut linking);

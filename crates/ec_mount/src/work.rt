@@ -1,15 +1,17 @@
 // A mounted clerk: it's started, run over a link of the net, and ended.
 ghost use Rattle.std.specs.Prelude.{◌≡◌, ◌≤◌, ◌+◌, [], Err, IfSome};
 ghost use Rattle.ec_clerknode.specs.LaneRuns.{lists_of};
+ghost use Rattle.ec_link.specs.NetAnswers.{IsEmpty};
 ghost use Rattle.ec_mount.specs.Work.{RunsOver, WorksOver, Works, Concludes, last_answer as last_of, given_of};
 
 use crate::calls::Replies;
+use crate::greeting::{Greeted, greet};
 use crate::linked::{LINKER, make_linked};
 use crate::telling::{Who, tell_start, tell_unreached};
 use ec_base::{Age, List, OpNo};
 use ec_clerk::Clerk;
-use ec_clerknode::{Closing, NodeFault, Reply, SharedClerk, send_all};
-use ec_link::{Around, Link, Net, NetFault, Sent};
+use ec_clerknode::{Closing, NodeFault, Reply, SharedClerk};
+use ec_link::{Around, Link, Net, NetFault};
 use ec_plain::Call;
 use ec_protocol::{ClerkFault, Out};
 use std::alloc::Global;
@@ -106,7 +108,7 @@ fn run_over<N: Net, R: Around + Eprint>(
     lanes: Vec<List<Call>>,
 ) -> Option<(N::Link, Answers)>
     ensures later { N.faults net.old ≤ N.faults net.new }
-    ensures runs { IfSome result (λ r. RunsOver clerk [] lanes.items
+    ensures runs { IfSome result (λ r. RunsOver clerk lanes.items
         (record { counts = N.Link.faults link + N.Link.closes link; given = N.Link.given link; got = N.Link.got link })
         (record { counts = N.Link.faults r.0 + N.Link.closes r.0; given = N.Link.given r.0; got = N.Link.got r.0 })
         (record { faults = N.faults net.old; bad = N.bad net.old; ended = N.ended net.old })
@@ -123,7 +125,7 @@ fn run_over<N: Net, R: Around + Eprint>(
     Some((left(rt, link, &answers), answers))
 }
 
-// Greets the server and runs the clerk.
+// Greets the server, runs the clerk, and gives its last link back to the net.
 fn work_over<N: Net, R: Around + Eprint>(
     rt: &R,
     alloc: Global,
@@ -133,37 +135,30 @@ fn work_over<N: Net, R: Around + Eprint>(
     clerk: Clerk,
     outs: Vec<Out>,
     lanes: Vec<List<Call>>,
-) -> Option<(N::Link, Answers)>
+) -> Answers
+    requires { IsEmpty (N.Link.given link) × IsEmpty (N.Link.got link) }
     ensures later { N.faults net.old ≤ N.faults net.new }
-    ensures works { IfSome result (λ r. WorksOver clerk outs.items lanes.items
-        (record { counts = N.Link.faults link + N.Link.closes link; given = N.Link.given link; got = N.Link.got link })
-        (record { counts = N.Link.faults r.0 + N.Link.closes r.0; given = N.Link.given r.0; got = N.Link.got r.0 })
+    ensures works { WorksOver clerk outs.items lanes.items
         (record { faults = N.faults net.old; bad = N.bad net.old; ended = N.ended net.old })
         (record { faults = N.faults net.new; bad = N.bad net.new; ended = N.ended net.new })
-        (given_of r.1)) }
+        (given_of result) }
 {
-    let mut link = link;
-    let bell = match link.bell(rt) {
-        Ok(bell) => bell,
-        Err(NetFault::Failed) => {
+    let greeted = match greet(rt, who, net, link, &outs) {
+        Ok(greeted) => greeted,
+        Err(fault) => {
             drop(clerk);
-            return Some((link, none(alloc, NodeFault::Net)));
-        }
-        Err(NetFault::NoMemory) => {
-            drop(clerk);
-            return Some((link, none(alloc, NodeFault::NoMemory)));
+            return none(alloc, fault);
         }
     };
-    let (_, end) = send_all(rt, alloc, &mut link, &outs);
-    match end {
-        Sent::Done => run_over(rt, alloc, who, net, link, bell, clerk, lanes),
-        Sent::Failed => {
-            drop(clerk);
-            Some((link, none(alloc, NodeFault::Net)))
-        }
-        Sent::NoMemory => {
-            drop(clerk);
-            Some((link, none(alloc, NodeFault::NoMemory)))
+    let Greeted { link, bell } = greeted;
+    let Some((link, answers)) = run_over(rt, alloc, who, net, link, bell, clerk, lanes) else {
+        return none(alloc, NodeFault::NoMemory);
+    };
+    match net.back(link) {
+        Ok(()) => answers,
+        Err(_) => {
+            drop(answers);
+            none(alloc, NodeFault::NoMemory)
         }
     }
 }
@@ -201,14 +196,5 @@ pub fn work<N: Net, R: Around + Eprint>(
         }
     };
     tell_start(rt, who, boot);
-    let Some((link, answers)) = work_over(rt, alloc, who, net, link, clerk, outs, lanes) else {
-        return none(alloc, NodeFault::NoMemory);
-    };
-    match net.back(link) {
-        Ok(()) => answers,
-        Err(_) => {
-            drop(answers);
-            none(alloc, NodeFault::NoMemory)
-        }
-    }
+    work_over(rt, alloc, who, net, link, clerk, outs, lanes)
 }
