@@ -16,12 +16,12 @@ ROOT = os.path.dirname(os.path.dirname(os.path.realpath(__file__)))
 PAGES = ["README.md"] + sorted(os.path.relpath(path, ROOT) for path in glob.glob(f"{ROOT}/docs/*.md"))
 ENDING = r"\.(?:antt|rt|py|sh|md|edit|script|transcript|svg|txt|c)\b"
 # What isn't here: the bench's crate, which is none while it isn't built, files that runs make, and names of the language, std and other crates.
-ELSEWHERE = set("ec_bench lose.script lose.transcript echofs.disk Bool Debug Display FinMap Entries where_key is_sorted get_mut Slab".split())
+ELSEWHERE = set("ec_bench lose.script lose.transcript echofs.disk Bool Debug Display FinMap Entries where_key is_sorted get_mut Slab PartialEq impl ECHOFS1".split())
 
 DECLARED = {
     ".antt": [r"^\s*(?:(?:pub|abbrev|unfoldable) )*([^\s:(){}\[\],]+) :(?: |$)", r"\b(?:record|data) (\S+)", r"^module (\S+)"],
     ".rt": [
-        r"\b(?:fn|struct|enum|trait|type|const|static|mod|macro_rules!) (\w+)",
+        r"\b(?:fn|struct|enum|trait|type|const|static|mod|ghost|macro_rules!) (\w+)",
         r"\b(?:ensures|requires|invariant)\s+(\w+) ",
         r"^\s+(?:pub(?:\(crate\))? )?(\w+)(?::|,$| ?\{| ?\(|$)",
     ],
@@ -120,7 +120,7 @@ def listed(text):
 
 def misplaced(text):
     """Names and files that the crate or the file of which the page speaks doesn't have."""
-    for it in re.finditer(rf"(?:`|\*\*)(ec_\w+)(?:`|\*\*)(, |: )({LIST})", text):
+    for it in re.finditer(rf"(?:`|\*\*)(ec_\w+)(?:::\w+)*(?:`|\*\*)(, |: )({LIST})", text):
         crate = it[1]
         for name in listed(it[3]) if crate in crates() else []:
             if re.search(ENDING + "$", name):
@@ -129,7 +129,7 @@ def misplaced(text):
                 break
             if it[2] == ": " and CITED.match(name) and not has_all(names_in(crate), name) and name.split("::")[0] not in crates():
                 yield it.start(), f"{crate} has no {name}"
-    for it in re.finditer(rf"((?:`|\*\*)(?:{NAME})(?:`|\*\*)(?:,? (?:and )?(?:`|\*\*)(?:{NAME})(?:`|\*\*))*) \(`(ec_\w+)`(?:, `(\w+\.antt)`)?\)", text):
+    for it in re.finditer(rf"((?:`|\*\*)(?:{NAME})(?:`|\*\*)(?:,? (?:and )?(?:`|\*\*)(?:{NAME})(?:`|\*\*))*) \(`(ec_\w+)(?:::\w+)*`(?:, `(\w+\.antt)`)?\)", text):
         crate = it[2]
         for name in re.findall(NAME, it[1]) if crate in crates() else []:
             if name != "and" and name not in crates() and name not in names_in(crate):
