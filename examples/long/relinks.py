@@ -28,6 +28,8 @@ LONGEST = 240
 PAUSE = 10
 CLERKS = "ABCDEFGH"
 FILES = 30
+# how often each file is written over, so that a mount works for some seconds
+TURNS = 60
 # as many as the disk has room for: a volume has 1,024 objects
 MOST_ROUNDS = 4
 
@@ -133,7 +135,7 @@ def stops(server, relay):
 
 
 def away(server, relay):
-    time.sleep(random.uniform(0, 1))
+    time.sleep(random.uniform(0, 0.1))
     server.kill()
     time.sleep(PAUSE)
     server.start()
@@ -147,9 +149,11 @@ def lanes_of(folder):
     rows = [f"mkdir /{folder}"]
     for i in range(FILES):
         name = f"/{folder}/{i}"
-        rows += [f"create {name}", f"write {name} 0 x"]
-        if draw.random() < 0.4:
-            rows.append(f"fsync {name}")
+        rows.append(f"create {name}")
+        for _ in range(TURNS):
+            rows.append(f"write {name} 0 x")
+            if draw.random() < 0.4:
+                rows.append(f"fsync {name}")
         rows += [f"rename {name} /{folder}/n{i}", f"write /{folder}/n{i} 0 {folder}.{i}"]
         if draw.random() < 0.6:
             rows.append(f"fsync /{folder}/n{i}")
@@ -224,8 +228,9 @@ def is_well(way, most):
         server, relay = Server(folder), Relay()
         try:
             Mount(port, "I", "1 mkdir /shared\n").join()
-            while times < most and rounds < MOST_ROUNDS and not faults:
-                more, links, faults = round_of(go, server, relay, rounds, most - times)
+            # where nothing else takes the processors all mounts may have ended before a link goes
+            while (times < most or (again == 0 and go is not stops)) and rounds < MOST_ROUNDS and not faults:
+                more, links, faults = round_of(go, server, relay, rounds, max(1, most - times))
                 rounds, times, again = rounds + 1, times + more, again + links
             server.kill()
             server.start()
