@@ -28,32 +28,38 @@ use ec_disk::CrashDisk;
 use ec_drill::drill;
 use ec_link::{Around, Net, Spawner};
 use ec_mount::mount;
+use ec_serve::Listening;
 use making::make;
 use serving::serve;
 use soaking::soak;
 pub use status::Status;
 use std::io::Eprint;
 
+/// A start of the process: its runtime, the words behind the program's name, and its number.
+#[derive(Drop)]
+pub struct Start<'a, R> {
+    pub rt: &'a R,
+    pub words: &'a [String],
+    pub boot: u64,
+}
+
 /// Does all that the program does, over any source, sink and disk that isn't armed, and answers the
-/// exit status. The words are those behind the program's name; `boot` is the number of this start of
-/// the process.
+/// exit status.
 pub fn run_words<R: Around + Eprint, S: Source, K: Sink, D: CrashDisk + Send, N: Net>(
-    rt: &R,
-    words: &[String],
+    start: Start<'_, R>,
     source: &mut S,
     sink: &mut K,
     disk: &mut D,
     net: &mut N,
     spawner: &mut Spawner,
-    boot: u64,
 ) -> u8
     requires { (D.counts disk.old).armed ≡ None }
-    ensures usage { (result ≡ 2) ↔ ((c : Command) → Spells (map string_bytes words.now) c → ⊥) }
+    ensures usage { (result ≡ 2) ↔ ((c : Command) → Spells (map string_bytes start.entry.words.now) c → ⊥) }
     ensures later { (S.faults source.old ≤ S.faults source.new) × (K.faults sink.old ≤ K.faults sink.new) }
     ensures counts { ((D.counts disk.old).faults ≤ (D.counts disk.new).faults) × ((D.counts disk.old).stops ≤ (D.counts disk.new).stops) }
     ensures net { (N.faults net.old ≤ N.faults net.new) × (faults_of spawner.old ≤ faults_of spawner.new) }
     ensures echoes { (status : Status) × (result ≡ code status)
-        × Echoes boot (map string_bytes words.now) status (record {
+        × Echoes start.entry.boot (map string_bytes start.entry.words.now) status (record {
           left = S.left source.old;
           left_after = S.left source.new;
           reads = S.faults source.old;
@@ -73,6 +79,7 @@ pub fn run_words<R: Around + Eprint, S: Source, K: Sink, D: CrashDisk + Send, N:
           later = record { faults = N.faults net.new; bad = N.bad net.new; ended = N.ended net.new; starts = faults_of spawner.new };
         }) }
 {
+    let Start { rt, words, boot } = start;
     let Some(command) = command_of(words) else {
         return Status::Usage.code();
     };
@@ -84,7 +91,8 @@ pub fn run_words<R: Around + Eprint, S: Source, K: Sink, D: CrashDisk + Send, N:
         Command::Make(number) => make(rt.alloc(), number, sink).code(),
         Command::Soak(number) => soak(rt.alloc(), number, sink, disk).code(),
         Command::Serve(count) => {
-            serve(rt, sink, disk, net, spawner, address_of(words), count).code()
+            let addr = address_of(words);
+            serve(rt, sink, disk, net, spawner, Listening { addr, count }).code()
         }
         Command::Mount(clerk) => {
             let addr = address_of(words);

@@ -11,7 +11,7 @@ ghost use Rattle.ec_echo.specs.OfNamed.Soaks.{DoesSoak};
 ghost use Rattle.ec_echo.specs.OfNamed.States.{StatesInOrder, DiskOfCut};
 ghost use Rattle.ec_echo.specs.OfNamed.Forms.{OnDrill, OnCheck, OnMake, OnSoak, OnServe, OnMount, Asks, DoesDrill, DoesCheck, DoesMake, DoesServe, DoesMount, TouchesNothing, IsAlone, outside, links};
 
-use crate::run_words;
+use crate::{Start, run_words};
 use ec_base::{Sink, Source};
 use ec_disk::CrashDisk;
 use ec_link::{Around, Net, Spawner};
@@ -67,5 +67,6 @@ pub fn echo_main<R: Around + Eprint, S: Source, K: Sink, D: CrashDisk + Send, N:
     ensures counts { ((D.counts disk.old).faults ≤ (D.counts disk.new).faults) × ((D.counts disk.old).stops ≤ (D.counts disk.new).stops) }
     ensures net { (N.faults net.old ≤ N.faults net.new) × (faults_of spawner.old ≤ faults_of spawner.new) }
 {
-    run_words(rt, words, source, sink, disk, net, spawner, boot)
+    let start = Start { rt, words, boot };
+    run_words(start, source, sink, disk, net, spawner)
 }

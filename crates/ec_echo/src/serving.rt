@@ -9,7 +9,7 @@ use ec_base::Sink;
 use ec_disk::CrashDisk;
 use ec_history::Shown;
 use ec_link::{Around, Net, Spawner};
-use ec_serve::Ending;
+use ec_serve::{Ending, Listening};
 use std::alloc::Global;
 use std::io::Eprint;
 
@@ -20,13 +20,12 @@ pub(crate) fn serve<K: Sink, D: CrashDisk + Send, N: Net, R: Around + Eprint>(
     disk: &mut D,
     net: &mut N,
     spawner: &mut Spawner,
-    addr: &str,
-    count: u32,
+    to: Listening<'_>,
 ) -> Status
     ensures later { K.faults sink.old ≤ K.faults sink.new }
     ensures counts { ((D.counts disk.old).faults ≤ (D.counts disk.new).faults) × ((D.counts disk.old).stops ≤ (D.counts disk.new).stops) }
     ensures net { (N.faults net.old ≤ N.faults net.new) × (faults_of spawner.old ≤ faults_of spawner.new) }
-    ensures served { Served count result (K.held sink.old) (K.held sink.new) (K.faults sink.old) (K.faults sink.new)
+    ensures served { Served to.entry.count result (K.held sink.old) (K.held sink.new) (K.faults sink.old) (K.faults sink.new)
         (record {
           tells = D.tells;
           disk = D.view disk.old;
@@ -37,7 +36,7 @@ pub(crate) fn serve<K: Sink, D: CrashDisk + Send, N: Net, R: Around + Eprint>(
           links_after = record { faults = N.faults net.new; bad = N.bad net.new; ended = N.ended net.new; starts = faults_of spawner.new };
         }) }
 {
-    let ending = ec_serve::serve(rt, disk, net, spawner, addr, count);
+    let ending = ec_serve::serve(rt, disk, net, spawner, to);
     tell(rt.alloc(), sink, ending)
 }
 

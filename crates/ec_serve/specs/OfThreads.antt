@@ -1,3 +1,4 @@
 pub mod Moments
+pub mod Tallies
 pub mod ServingMoments
 pub mod Goings

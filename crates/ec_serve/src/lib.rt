@@ -8,4 +8,4 @@ mod tending;
 pub mod threads;
 
 pub use ending::Ending;
-pub use serving::serve;
+pub use serving::{Listening, serve};

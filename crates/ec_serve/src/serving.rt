@@ -22,6 +22,13 @@ use ec_servernode::{ServerPass, SharedServer};
 use ec_store::Store;
 use std::io::Eprint;
 
+/// Where a server listens, and how many links it serves.
+#[derive(Drop)]
+pub struct Listening<'a> {
+    pub addr: &'a str,
+    pub count: u32,
+}
+
 /// Opens the disk, of which an empty one is formatted first, and serves so many links that come at the address, each in a thread of its
 /// own. It ends when all have gone. A fault of one link ends that link alone; where the disk fails or a counter is spent, no further link
 /// is served.
@@ -30,12 +37,11 @@ pub fn serve<D: Disk + Send, N: Net, R: Around + Eprint>(
     disk: &mut D,
     net: &mut N,
     spawner: &mut Spawner,
-    addr: &str,
-    count: u32,
+    to: Listening<'_>,
 ) -> Ending
     ensures later { (N.faults net.old ≤ N.faults net.new) × (faults_of spawner.old ≤ faults_of spawner.new) }
     ensures counts { ((D.counts disk.old).faults ≤ (D.counts disk.new).faults) × ((D.counts disk.old).stops ≤ (D.counts disk.new).stops) }
-    ensures serves { Serves count result
+    ensures serves { Serves to.entry.count result
         (record {
           tells = D.tells;
           disk = D.view disk.old;
@@ -50,7 +56,7 @@ pub fn serve<D: Disk + Send, N: Net, R: Around + Eprint>(
         Ok(store) => store,
         Err(fault) => return unopened(fault),
     };
-    serve_store(rt, &mut store, disk, net, spawner, addr, count)
+    serve_store(rt, &mut store, disk, net, spawner, to)
 }
 
 // Serves what stands on an opened disk.
@@ -60,13 +66,12 @@ fn serve_store<D: Disk + Send, N: Net, R: Around + Eprint>(
     disk: &mut D,
     net: &mut N,
     spawner: &mut Spawner,
-    addr: &str,
-    count: u32,
+    to: Listening<'_>,
 ) -> Ending
     requires held { D.tells → IsHeld (D.view disk.old) store.old }
     ensures later { (N.faults net.old ≤ N.faults net.new) × (faults_of spawner.old ≤ faults_of spawner.new) }
     ensures counts { ((D.counts disk.old).faults ≤ (D.counts disk.new).faults) × ((D.counts disk.old).stops ≤ (D.counts disk.new).stops) }
-    ensures serves { ServesOn (view_of store.old) count result
+    ensures serves { ServesOn (view_of store.old) to.entry.count result
         (record {
           tells = D.tells;
           disk = D.view disk.old;
@@ -78,7 +83,7 @@ fn serve_store<D: Disk + Send, N: Net, R: Around + Eprint>(
         }) }
 {
     let keeper = DiskKeeper::new(store, disk);
-    let (_, ending) = serve_kept(rt, keeper, net, spawner, addr, count);
+    let (_, ending) = serve_kept(rt, keeper, net, spawner, to);
     ending
 }
 
@@ -88,14 +93,13 @@ fn serve_kept<'a, D: Disk + Send, N: Net, R: Around + Eprint>(
     keeper: DiskKeeper<'a, D>,
     net: &mut N,
     spawner: &mut Spawner,
-    addr: &str,
-    count: u32,
+    to: Listening<'_>,
 ) -> (DiskKeeper<'a, D>, Ending)
     requires held { D.tells → IsHeld (D.view keeper.disk.now) keeper.store.now }
     ensures same { (result.0.store.ghost_name ≡ keeper.entry.store.ghost_name) × (result.0.disk.ghost_name ≡ keeper.entry.disk.ghost_name) }
     ensures later { (N.faults net.old ≤ N.faults net.new) × (faults_of spawner.old ≤ faults_of spawner.new) }
     ensures counts { ((D.counts keeper.entry.disk.now).faults ≤ (D.counts result.0.disk.now).faults) × ((D.counts keeper.entry.disk.now).stops ≤ (D.counts result.0.disk.now).stops) }
-    ensures serves { ServesOn (view_of keeper.entry.store.now) count result.1
+    ensures serves { ServesOn (view_of keeper.entry.store.now) to.entry.count result.1
         (record {
           tells = D.tells;
           disk = D.view keeper.entry.disk.now;
@@ -106,7 +110,7 @@ fn serve_kept<'a, D: Disk + Send, N: Net, R: Around + Eprint>(
           links_after = record { faults = N.faults net.new; bad = N.bad net.new; ended = N.ended net.new; starts = faults_of spawner.new };
         }) }
 {
-    serve_by(rt, keeper, net, spawner, addr, count)
+    serve_by(rt, keeper, net, spawner, to)
 }
 
 // Starts a server on what the keeper keeps, and serves. The keeper comes back.
@@ -115,18 +119,15 @@ fn serve_by<K: Keeper + Send + Drop, N: Net, R: Around + Eprint>(
     mut keeper: K,
     net: &mut N,
     spawner: &mut Spawner,
-    addr: &str,
-    count: u32,
+    to: Listening<'_>,
 ) -> (K, Ending)
     ensures later { (N.faults net.old ≤ N.faults net.new) × (faults_of spawner.old ≤ faults_of spawner.new) }
-    ensures ends { EndsBy K.kept K.counts K.did K.broke count result.1 keeper result.0
+    ensures ends { EndsBy K.kept K.counts K.did K.broke to.entry.count result.1 keeper result.0
         (record { faults = N.faults net.old; bad = N.bad net.old; ended = N.ended net.old; starts = faults_of spawner.old })
         (record { faults = N.faults net.new; bad = N.bad net.new; ended = N.ended net.new; starts = faults_of spawner.new }) }
 {
     match Server::start(rt.alloc(), &mut keeper) {
-        Ok((server, begun)) => {
-            serve_started(rt, server, begun, keeper, net, spawner, addr, count)
-        }
+        Ok(started) => serve_started(rt, started, keeper, net, spawner, to),
         Err(fault) => (keeper, unstarted(fault)),
     }
 }
@@ -134,22 +135,21 @@ fn serve_by<K: Keeper + Send + Drop, N: Net, R: Around + Eprint>(
 // Serves by a server that was started.
 fn serve_started<K: Keeper + Send + Drop, N: Net, R: Around + Eprint>(
     rt: &R,
-    server: Server,
-    begun: Served,
+    started: (Server, Served),
     keeper: K,
     net: &mut N,
     spawner: &mut Spawner,
-    addr: &str,
-    count: u32,
+    to: Listening<'_>,
 ) -> (K, Ending)
-    requires { StandsOn (K.kept keeper) server }
+    requires { StandsOn (K.kept keeper) started.0 }
     ensures later { (N.faults net.old ≤ N.faults net.new) × (faults_of spawner.old ≤ faults_of spawner.new) }
-    ensures ends { RanFrom K.kept K.counts K.did K.broke server begun.sent count result.1 keeper result.0
+    ensures ends { RanFrom K.kept K.counts K.did K.broke started.0 started.1.sent to.entry.count result.1 keeper result.0
         (record { faults = N.faults net.old; bad = N.bad net.old; ended = N.ended net.old; starts = faults_of spawner.old })
         (record { faults = N.faults net.new; bad = N.bad net.new; ended = N.ended net.new; starts = faults_of spawner.new }) }
 {
+    let (server, begun) = started;
     match SharedServer::over(rt.alloc(), server, begun, keeper) {
-        Ok((server, pass)) => serve_shared(rt, server, pass, net, spawner, addr, count),
+        Ok((server, pass)) => serve_shared(rt, server, pass, net, spawner, to),
         Err(keeper) => (keeper, Ending::NoMemory),
     }
 }
@@ -161,16 +161,15 @@ fn serve_shared<K: Keeper + Send + Drop, N: Net, R: Around + Eprint>(
     mut pass: ServerPass<K>,
     net: &mut N,
     spawner: &mut Spawner,
-    addr: &str,
-    count: u32,
+    to: Listening<'_>,
 ) -> (K, Ending)
     requires { IsServerPass K.kept server.lock pass }
     ensures later { (N.faults net.old ≤ N.faults net.new) × (faults_of spawner.old ≤ faults_of spawner.new) }
-    ensures ends { RanServer K.kept K.counts K.did K.broke (state_of K.kept (first server.lock)) (queue_at (first server.lock).boxes.items) count result.1 (first server.lock).keeper result.0
+    ensures ends { RanServer K.kept K.counts K.did K.broke (state_of K.kept (first server.lock)) (queue_at (first server.lock).boxes.items) to.entry.count result.1 (first server.lock).keeper result.0
         (record { faults = N.faults net.old; bad = N.bad net.old; ended = N.ended net.old; starts = faults_of spawner.old })
         (record { faults = N.faults net.new; bad = N.bad net.new; ended = N.ended net.new; starts = faults_of spawner.new }) }
 {
-    let tended = tend(rt, &server, &mut pass, net, spawner, addr, count);
+    let tended = tend(rt, &server, &mut pass, net, spawner, to);
     let (back, keeper, halt) = server.close(rt, &mut pass);
     let is_back = back.is_some();
     drop(back);

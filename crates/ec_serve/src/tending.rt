@@ -9,9 +9,9 @@ ghost use Rattle.ec_servernode.specs.TurnSteps.{IsServerPass};
 ghost use Rattle.ec_serve.specs.ServerRuns.{Tends, tended_of};
 
 use crate::ending::Tended;
-use crate::threads::{Connections, run_all};
+use crate::serving::Listening;
+use crate::threads::{Connections, Tally, run_all};
 use ec_attend::bells::{Bells, Watch, tell_door, tell_no_door};
-use ec_base::trace::Trace;
 use ec_link::{Around, Net, NetFault, Spawned, Spawner};
 use ec_server::Keeper;
 use ec_servernode::{ServerPass, SharedServer};
@@ -24,20 +24,19 @@ pub fn tend<K: Keeper + Send + Drop, N: Net, R: Around + Eprint>(
     pass: &mut ServerPass<K>,
     net: &mut N,
     spawner: &mut Spawner,
-    addr: &str,
-    count: u32,
+    to: Listening<'_>,
 ) -> Tended
     requires pass { IsServerPass K.kept server.now.lock pass.old }
     ensures pass { IsServerPass K.kept server.now.lock pass.new }
     ensures later { (N.faults net.old ≤ N.faults net.new) × (faults_of spawner.old ≤ faults_of spawner.new) }
-    ensures tends { Tends count result (numbers pass.new.pass) (front pass.new.pass)
+    ensures tends { Tends to.entry.count result (numbers pass.new.pass) (front pass.new.pass)
         (record { faults = N.faults net.old; bad = N.bad net.old; ended = N.ended net.old; starts = faults_of spawner.old })
         (record { faults = N.faults net.new; bad = N.bad net.new; ended = N.ended net.new; starts = faults_of spawner.new }) }
 {
     let Ok(watch) = Watch::new(rt, rt.alloc()) else {
         return Tended::Cut;
     };
-    let (door, bell) = match open(rt, net, addr) {
+    let (door, bell) = match open(rt, net, to.addr) {
         Ok(opened) => opened,
         Err(NetFault::Failed) => return Tended::NetFailed,
         Err(NetFault::NoMemory) => return Tended::Cut,
@@ -49,12 +48,8 @@ pub fn tend<K: Keeper + Send + Drop, N: Net, R: Around + Eprint>(
         server,
         bells: &bells,
         door,
-        left: count,
         number: 0,
-        failed: false,
-        wants: false,
-        begun: Trace::new(),
-        back: Trace::new(),
+        tally: Tally::new(to.count),
         watch: Some(watch),
     };
     let ran = run_all(rt, spawner, net, pass, &mut connections);

@@ -2,5 +2,5 @@
 mod connections;
 mod threads;
 
-pub use connections::Connections;
+pub use connections::{Connections, Tally};
 pub use threads::{Ran, run_all};

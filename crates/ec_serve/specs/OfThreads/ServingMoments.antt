@@ -13,6 +13,7 @@ use Rattle.ec_lock.specs.declared.types.Pass.{Pass}
 use Rattle.ec_servernode.specs.declared.state.Node.{Node}
 use Rattle.ec_servernode.specs.declared.step.Step.{Step}
 use Rattle.ec_servernode.specs.Run.{number_of}
+use Rattle.ec_serve.specs.declared.threads.connections.Tally.{Tally}
 use Rattle.ec_serve.specs.OfThreads.Moments.{Back, AreServed}
 
 module _ {L : Type 0} (faults closes : L → ℕ) (given : L → Option (List Heard)) where
@@ -35,8 +36,8 @@ pub record Moment (N L : Type 0) : Type 0 where
   pub joined : List ℕ
   pub steps : List Step
 
-abbrev pub moment : {N L K : Type 0} → N → ℕ → List ℕ → List (Snapshot L) → Bool → Bool → Pass (Node K) Step → Moment N L
-moment net left begun back failed wants pass = record { net = net; left = left; begun = length begun; back = back; failed = failed; wants = wants; joined = numbers pass; steps = front pass }
+abbrev pub moment : {N L K : Type 0} → N → Tally L → Pass (Node K) Step → Moment N L
+moment net t pass = record { net = net; left = t.left; begun = length t.begun.items; back = t.back.items; failed = t.failed; wants = t.wants; joined = numbers pass; steps = front pass }
 
 module _ {N L : Type 0} (faults_of bad_of : N → ℕ) (ended_of : N → List Bodies) (back_of : Snapshot L → Back) where
   -- these links came back between two moments, served by these passes

@@ -1,14 +1,11 @@
 // The links that come to a server.
-ghost use Rattle.std.specs.Prelude.{◌≡◌, ◌⊎◌, ◌+◌, ◌<◌, ℕ, [], ◌∷◌, ◌++◌, length, true, false, IfSome, IfNone};
+ghost use Rattle.std.specs.Prelude.{◌≡◌, ◌+◌, ◌<◌, [], ◌∷◌, ◌++◌, length, true, false, IfSome, IfNone};
 ghost use Rattle.std.specs.declared.snapshot.Snapshot.{Snapshot as Shot};
-ghost use mathlib.Core.List.{IsPrefix};
 ghost use Rattle.ec_link.specs.NetAnswers.{IsEmpty, is_bad};
 ghost use Rattle.ec_link.specs.JobCounts.{job_taken};
-ghost use Rattle.ec_lock.specs.PassViews.{front, numbers};
-ghost use Rattle.ec_lock.specs.Steps.{Member, of};
-ghost use Rattle.ec_servernode.specs.Run.{number_of};
 ghost use Rattle.ec_servernode.specs.TurnSteps.{IsServerPass};
 ghost use Rattle.ec_attend.specs.OverLinks.{EndsSo, BeginsSo, GoneSo};
+ghost use Rattle.ec_serve.specs.OfThreads.Tallies.{KnowsMore, Begins, Looks, NoneComes, GivesBack};
 ghost use Rattle.ec_serve.specs.OfThreads.ServingMoments.{back_of, moment, GoesOn};
 
 use ec_attend::bells::{Bells, Watch, give_back, tell_begin};
@@ -20,22 +17,55 @@ use ec_servernode::{ServerPass, SharedServer};
 use std::io::Eprint;
 use std::snapshot::Snapshot;
 
+/// What became of a server's links so far.
+#[derive(Drop)]
+pub struct Tally<L> {
+    /// So many are still to come.
+    pub left: u32,
+    /// The net failed.
+    pub failed: bool,
+    /// Memory was wanting, or the server is down.
+    pub wants: bool,
+    pub begun: Trace<u64>,
+    pub back: Trace<Snapshot<L>>,
+}
+
+impl<L> Tally<L> {
+    /// No link came yet.
+    pub fn new(count: u32) -> Tally<L>
+        ensures links { (result.left ≡ count) × (result.begun.items ≡ []) × (result.back.items ≡ []) }
+        ensures fine { (result.failed ≡ false) × (result.wants ≡ false) }
+    {
+        Tally {
+            left: count,
+            failed: false,
+            wants: false,
+            begun: Trace::new(),
+            back: Trace::new(),
+        }
+    }
+
+    // The link of this number came.
+    fn begin(&mut self, number: u64)
+        requires { 0 < self.old.left }
+        ensures left { self.new.left + length self.new.begun.items ≡ self.old.left + length self.old.begun.items }
+        ensures begun { length self.new.begun.items ≡ length self.old.begun.items + 1 }
+        ensures others { (self.new.back ≡ self.old.back) × (self.new.failed ≡ self.old.failed) × (self.new.wants ≡ self.old.wants) }
+    {
+        self.left -= 1;
+        self.begun = self.begun.and(&number);
+    }
+}
+
 /// The links that are to come at one door, and those that came.
 #[derive(Drop)]
 pub struct Connections<'s, 'b, K: Keeper + Drop, N: Net> {
     pub server: &'s SharedServer<K>,
     pub bells: &'b Bells<<N::Link as Link>::Bell, N::DoorBell>,
     pub door: N::Door,
-    /// So many links are still to come.
-    pub left: u32,
     /// The number of the last link that came.
     pub number: u64,
-    /// The net failed.
-    pub failed: bool,
-    /// Memory was wanting, or the server is down.
-    pub wants: bool,
-    pub begun: Trace<u64>,
-    pub back: Trace<Snapshot<N::Link>>,
+    pub tally: Tally<N::Link>,
     /// What the warden begins with, until it was started.
     pub watch: Option<Watch>,
 }
@@ -49,31 +79,25 @@ impl<'s, 'b, K: Keeper + Drop, N: Net> Connections<'s, 'b, K, N> {
         link: N::Link,
     ) -> Option<Connection<'s, 'b, K, N::Link, N::DoorBell>>
         requires pass { IsServerPass K.kept self.old.server.now.lock pass.old }
-        requires left { 0 < self.old.left }
+        requires left { 0 < self.old.tally.left }
         requires link { IsEmpty (N.Link.given link) × IsEmpty (N.Link.got link) }
         ensures server { self.new.server ≡ self.old.server }
-        ensures others { (self.new.back ≡ self.old.back) × (self.new.failed ≡ self.old.failed) }
         ensures pass { IsServerPass K.kept self.old.server.now.lock pass.new }
-        ensures joined { numbers pass.new.pass ≡ numbers pass.old.pass }
-        ensures later { IsPrefix (front pass.old.pass) (front pass.new.pass) }
-        ensures own { (n : ℕ) → Member n (numbers pass.old.pass) → of number_of n (front pass.old.pass) ≡ of number_of n (front pass.new.pass) }
-        ensures left { self.new.left + length self.new.begun.items ≡ self.old.left + length self.old.begun.items }
-        ensures begun { length self.new.begun.items ≡ length self.old.begun.items + job_taken result }
-        ensures wants { self.new.wants ≡ false → self.old.wants ≡ false }
-        ensures none { IfNone result (self.new.wants ≡ true) }
+        ensures knows { KnowsMore pass.old.pass pass.new.pass }
+        ensures tally { Begins (job_taken result) self.old.tally self.new.tally }
+        ensures none { IfNone result (self.new.tally.wants ≡ true) }
         ensures some { IfSome result (λ c. (c.server ≡ self.old.server) × IsServerPass K.kept self.old.server.now.lock c.pass × BeginsSo N.Link.given N.Link.got c.pass.pass c.link) }
     {
         if self.bells.is_over() {
-            self.wants = true;
+            self.tally.wants = true;
             return None;
         }
         let Some(new) = self.server.split(rt, pass) else {
-            self.wants = true;
+            self.tally.wants = true;
             return None;
         };
-        self.left -= 1;
         self.number = self.number.saturating_add(1);
-        self.begun = self.begun.and(&self.number);
+        self.tally.begin(self.number);
         tell_begin(rt, self.number);
         Some(Connection {
             server: self.server,
@@ -87,35 +111,33 @@ impl<'s, 'b, K: Keeper + Drop, N: Net> Connections<'s, 'b, K, N> {
     // Gives a link back.
     fn give_back(&mut self, net: &mut N, link: N::Link, is_over: bool)
         ensures server { self.new.server ≡ self.old.server }
-        ensures others { (self.new.left ≡ self.old.left) × (self.new.begun ≡ self.old.begun) × (self.new.failed ≡ self.old.failed) }
+        ensures others { (self.new.tally.left ≡ self.old.tally.left) × (self.new.tally.begun ≡ self.old.tally.begun) × (self.new.tally.failed ≡ self.old.tally.failed) }
         ensures faults { N.faults net.new ≡ N.faults net.old }
-        ensures back { (shot : Shot N.Link) × (shot.value ≡ link) × (self.new.back.items ≡ self.old.back.items ++ shot ∷ []) }
-        ensures wants { self.old.wants ≡ true → self.new.wants ≡ true }
-        ensures came { self.new.wants ≡ false → (self.old.wants ≡ false) × (is_over ≡ true) × (N.ended net.new ≡ N.ended net.old ++ (N.Link.given link, N.Link.got link) ∷ []) × (N.bad net.new ≡ N.bad net.old + is_bad (N.Link.faults link) (N.Link.closes link)) }
+        ensures back { (shot : Shot N.Link) × (shot.value ≡ link) × (self.new.tally.back.items ≡ self.old.tally.back.items ++ shot ∷ []) }
+        ensures wants { self.old.tally.wants ≡ true → self.new.tally.wants ≡ true }
+        ensures came { self.new.tally.wants ≡ false → (self.old.tally.wants ≡ false) × (is_over ≡ true) × (N.ended net.new ≡ N.ended net.old ++ (N.Link.given link, N.Link.got link) ∷ []) × (N.bad net.new ≡ N.bad net.old + is_bad (N.Link.faults link) (N.Link.closes link)) }
     {
-        self.back = self.back.and(&Snapshot::of(&link));
+        self.tally.back = self.tally.back.and(&Snapshot::of(&link));
         if give_back(net, link) {
-            self.wants = self.wants || !is_over;
+            self.tally.wants = self.tally.wants || !is_over;
         } else {
-            self.wants = true;
+            self.tally.wants = true;
         }
     }
 
     /// Whether no further link is to come.
     pub fn is_over(&mut self) -> bool
         ensures server { self.new.server ≡ self.old.server }
-        ensures links { (self.new.left ≡ self.old.left) × (self.new.begun ≡ self.old.begun) × (self.new.back ≡ self.old.back) }
-        ensures failed { self.new.failed ≡ self.old.failed }
-        ensures wants { self.new.wants ≡ false → self.old.wants ≡ false }
-        ensures over { result ≡ true → (self.new.left ≡ 0) ⊎ ((self.new.failed ≡ true) ⊎ (self.new.wants ≡ true)) }
+        ensures tally { Looks self.old.tally self.new.tally }
+        ensures over { result ≡ true → NoneComes self.new.tally }
     {
-        self.wants = self.wants || self.bells.is_over();
-        self.left == 0 || self.failed || self.wants
+        self.tally.wants = self.tally.wants || self.bells.is_over();
+        self.tally.left == 0 || self.tally.failed || self.tally.wants
     }
 
     /// Waits for the door, unless no further link is to come or it has rung since it stood at `seen`.
     pub fn rest<R: Around>(&self, rt: &R, seen: u64) {
-        if self.left > 0 && !self.failed && !self.wants {
+        if self.tally.left > 0 && !self.tally.failed && !self.tally.wants {
             self.bells.wait(rt, seen);
         }
     }
@@ -131,24 +153,23 @@ impl<'s, 'b, K: Keeper + Drop, N: Net> Connections<'s, 'b, K, N> {
         ensures pass { IsServerPass K.kept self.new.server.now.lock pass.new }
         ensures server { self.new.server ≡ self.old.server }
         ensures goes { GoesOn N.faults N.bad N.ended (back_of N.Link.faults N.Link.closes N.Link.given N.Link.got)
-            (moment net.old self.old.left self.old.begun.items self.old.back.items self.old.failed self.old.wants pass.old.pass)
-            (moment net.new self.new.left self.new.begun.items self.new.back.items self.new.failed self.new.wants pass.new.pass) }
-        ensures begun { length self.new.begun.items ≡ length self.old.begun.items + job_taken result }
-        ensures back { self.new.back ≡ self.old.back }
+            (moment net.old self.old.tally pass.old.pass) (moment net.new self.new.tally pass.new.pass) }
+        ensures begun { length self.new.tally.begun.items ≡ length self.old.tally.begun.items + job_taken result }
+        ensures back { self.new.tally.back ≡ self.old.tally.back }
         ensures some { IfSome result (λ c. (c.server ≡ self.old.server) × IsServerPass K.kept self.old.server.now.lock c.pass × BeginsSo N.Link.given N.Link.got c.pass.pass c.link) }
     {
-        if self.left == 0 {
+        if self.tally.left == 0 {
             return None;
         }
         match net.next(rt, &mut self.door) {
             Ok(Some(link)) => self.begin(rt, pass, link),
             Ok(None) => None,
             Err(NetFault::Failed) => {
-                self.failed = true;
+                self.tally.failed = true;
                 None
             }
             Err(NetFault::NoMemory) => {
-                self.wants = true;
+                self.tally.wants = true;
                 None
             }
         }
@@ -161,11 +182,8 @@ impl<'s, 'b, K: Keeper + Drop, N: Net> Connections<'s, 'b, K, N> {
         ensures pass { IsServerPass K.kept self.new.server.now.lock pass.new }
         ensures server { self.new.server ≡ self.old.server }
         ensures goes { GoesOn N.faults N.bad N.ended (back_of N.Link.faults N.Link.closes N.Link.given N.Link.got)
-            (moment net.old self.old.left self.old.begun.items self.old.back.items self.old.failed self.old.wants pass.old.pass)
-            (moment net.new self.new.left self.new.begun.items self.new.back.items self.new.failed self.new.wants pass.new.pass) }
-        ensures others { (self.new.left ≡ self.old.left) × (self.new.begun ≡ self.old.begun) × (self.new.failed ≡ self.old.failed) }
-        ensures back { length self.new.back.items ≡ length self.old.back.items + 1 }
-        ensures wants { self.old.wants ≡ true → self.new.wants ≡ true }
+            (moment net.old self.old.tally pass.old.pass) (moment net.new self.new.tally pass.new.pass) }
+        ensures gone { GivesBack 1 self.old.tally self.new.tally }
     {
         let Ended {
             pass: other,

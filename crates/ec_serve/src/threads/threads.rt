@@ -1,5 +1,5 @@
 // Links that are served in threads of their own, which borrow the server.
-ghost use Rattle.std.specs.Prelude.{◌≡◌, ◌⊎◌, ◌+◌, ℕ, length, true, IfSome, IfNone, OnOk};
+ghost use Rattle.std.specs.Prelude.{◌≡◌, ◌+◌, ℕ, length, IfSome, IfNone, OnOk};
 ghost use mathlib.Core.List.{IsPrefix};
 ghost use Rattle.slab.specs.Slab.{slab_len, HasRoomFor};
 ghost use Rattle.ec_link.specs.declared.spawn.Spawned.TheVariants as spawned;
@@ -10,12 +10,12 @@ ghost use Rattle.ec_lock.specs.Steps.{Member, of};
 ghost use Rattle.ec_servernode.specs.Run.{number_of};
 ghost use Rattle.ec_servernode.specs.TurnSteps.{IsServerPass};
 ghost use Rattle.ec_attend.specs.OverLinks.{EndsSo, BeginsSo, GoneSo};
+ghost use Rattle.ec_serve.specs.OfThreads.Tallies.{KnowsMore, NoneComes, AreLive, AllEnded, GivesBack};
 ghost use Rattle.ec_serve.specs.OfThreads.ServingMoments.{AllServe, back_of, moment, GoesOn};
 
-use crate::threads::connections::Connections;
+use crate::threads::connections::{Connections, Tally};
 use ec_attend::{Connection, Ended, serve_connection, watch_over};
 use ec_base::NoMemory;
-use ec_base::trace::Trace;
 use ec_link::{Around, Bell, Link, Net, Spawned, Spawner};
 use ec_server::Keeper;
 use ec_servernode::{ServerPass, SharedServer};
@@ -42,6 +42,13 @@ struct Started<K: Keeper + Drop, L: Link + Drop> {
     handle: PromisedHandle<Ended<K, L>, Kept<K>>,
 }
 
+// The scope of the threads that serve links, and the runtime that they use.
+#[derive(Drop)]
+struct Scoped<'r, 's, E, R> {
+    rt: &'s R,
+    scope: &'r Scope<'s, E>,
+}
+
 // Starts to serve a link that is to have this key, or drops it.
 fn start<
     's,
@@ -53,8 +60,7 @@ fn start<
     D: Bell + Send + Sync + Drop,
     R: Around + Eprint,
 >(
-    rt: &'s R,
-    scope: &Scope<'s, E>,
+    scoped: &Scoped<'_, 's, E, R>,
     spawner: &mut Spawner,
     connection: Connection<'a, 'b, K, L, D>,
     key: usize,
@@ -71,8 +77,9 @@ where
     ensures none { IfNone result (faults_of spawner.new ≡ faults_of spawner.old + 1) }
 {
     let kept = Kept(Snapshot::of(connection.server));
+    let rt = scoped.rt;
     let handle = spawner.start(
-        scope,
+        scoped.scope,
         kept,
         move || -> Ended<K, L>
             requires { IsServerPass K.kept connection.server.now.lock connection.pass × BeginsSo L.given L.got connection.pass.pass connection.link }
@@ -100,8 +107,7 @@ struct Warden<K: Keeper + Drop> {
 
 // Starts the warden behind the first link, once. It draws its pass from the server's own.
 fn start_warden<'s, 'a, 'b, E, K: Keeper + Send + Drop, N: Net, R: Around + Eprint>(
-    rt: &'s R,
-    scope: &Scope<'s, E>,
+    scoped: &Scoped<'_, 's, E, R>,
     spawner: &mut Spawner,
     pass: &mut ServerPass<K>,
     connections: &mut Connections<'a, 'b, K, N>,
@@ -117,10 +123,8 @@ where
     requires pass { IsServerPass K.kept connections.old.server.now.lock pass.old }
     requires warden { IfSome warden.old (λ w. w.handle.promise.0.value ≡ connections.old.server.now) }
     ensures pass { IsServerPass K.kept connections.new.server.now.lock pass.new }
-    ensures others { connections.new ≡ record connections.old { watch = connections.new.watch } }
-    ensures later { IsPrefix (front pass.old.pass) (front pass.new.pass) }
-    ensures joined { numbers pass.new.pass ≡ numbers pass.old.pass }
-    ensures own { (n : ℕ) → Member n (numbers pass.old.pass) → of number_of n (front pass.old.pass) ≡ of number_of n (front pass.new.pass) }
+    ensures others { (connections.new.server ≡ connections.old.server) × (connections.new.tally ≡ connections.old.tally) }
+    ensures knows { KnowsMore pass.old.pass pass.new.pass }
     ensures warden { IfSome warden.new (λ w. w.handle.promise.0.value ≡ connections.old.server.now) }
     ensures not_all { IfSome result (λ s. s ≡ spawned.All → ⊥) }
     ensures faults { faults_of spawner.new ≡ faults_of spawner.old + refused_by result }
@@ -133,12 +137,13 @@ where
     };
     let server = connections.server;
     let bells = connections.bells;
+    let rt = scoped.rt;
     let Some(own) = server.split(rt, pass) else {
         return Some(Spawned::NoMemory);
     };
     let kept = KeptPass(Snapshot::of(server));
     let started = spawner.start(
-        scope,
+        scoped.scope,
         kept,
         move || -> ServerPass<K>
             requires { IsServerPass K.kept server.now.lock own }
@@ -176,16 +181,23 @@ fn end_warden<K: Keeper + Drop, N: Net, R: Around>(
     }
 }
 
+// What was started and hasn't been waited for.
+#[derive(Drop)]
+struct Live<K: Keeper + Drop, L: Link + Drop> {
+    links: Slab<Started<K, L>>,
+    warden: Option<Warden<K>>,
+    /// How often the bell of the door had rung before it was last looked for links that have ended.
+    seen: u64,
+}
+
 // Serves link after link, and gives back each that has ended.
 fn serve_all<'s, 'a, 'b, E, K: Keeper + Send + Drop, N: Net, R: Around + Eprint>(
-    rt: &'s R,
-    scope: &Scope<'s, E>,
+    scoped: &Scoped<'_, 's, E, R>,
     spawner: &mut Spawner,
     net: &mut N,
     pass: &mut ServerPass<K>,
     connections: &mut Connections<'a, 'b, K, N>,
-    live: &mut Slab<Started<K, N::Link>>,
-    warden: &mut Option<Warden<K>>,
+    live: &mut Live<K, N::Link>,
 ) -> Spawned
 where
     'a: 's,
@@ -195,26 +207,25 @@ where
     <N::Link as Link>::Bell: 's,
     N::DoorBell: 's,
     requires pass { IsServerPass K.kept connections.old.server.now.lock pass.old }
-    requires kept { AllServe (λ one. one.handle.promise.0.value) connections.old.server.now live.old }
-    requires warden { IfSome warden.old (λ w. w.handle.promise.0.value ≡ connections.old.server.now) }
+    requires kept { AllServe (λ one. one.handle.promise.0.value) connections.old.server.now live.old.links }
+    requires warden { IfSome live.old.warden (λ w. w.handle.promise.0.value ≡ connections.old.server.now) }
     ensures pass { IsServerPass K.kept connections.new.server.now.lock pass.new }
     ensures server { connections.new.server ≡ connections.old.server }
     ensures goes { GoesOn N.faults N.bad N.ended (back_of N.Link.faults N.Link.closes N.Link.given N.Link.got)
-        (moment net.old connections.old.left connections.old.begun.items connections.old.back.items connections.old.failed connections.old.wants pass.old.pass)
-        (moment net.new connections.new.left connections.new.begun.items connections.new.back.items connections.new.failed connections.new.wants pass.new.pass) }
-    ensures each { result ≡ spawned.All → length connections.new.begun.items + length connections.old.back.items + slab_len live.old ≡ length connections.old.begun.items + length connections.new.back.items + slab_len live.new }
-    ensures over { (result ≡ spawned.All) → (connections.new.left ≡ 0) ⊎ ((connections.new.failed ≡ true) ⊎ (connections.new.wants ≡ true)) }
-    ensures kept { AllServe (λ one. one.handle.promise.0.value) connections.old.server.now live.new }
-    ensures warden { IfSome warden.new (λ w. w.handle.promise.0.value ≡ connections.old.server.now) }
+        (moment net.old connections.old.tally pass.old.pass) (moment net.new connections.new.tally pass.new.pass) }
+    ensures each { result ≡ spawned.All → AreLive connections.old.tally connections.new.tally (slab_len live.old.links) (slab_len live.new.links) }
+    ensures over { result ≡ spawned.All → NoneComes connections.new.tally }
+    ensures kept { AllServe (λ one. one.handle.promise.0.value) connections.old.server.now live.new.links }
+    ensures warden { IfSome live.new.warden (λ w. w.handle.promise.0.value ≡ connections.old.server.now) }
     ensures faults { faults_of spawner.new ≡ faults_of spawner.old + refused result }
 {
-    for _ in rt.forever() {
-        let seen = connections.bells.rings();
-        give_back_ended(rt, net, pass, connections, live);
-        if let Some(spawned) = serve_next(rt, scope, spawner, net, pass, connections, live, seen) {
+    for _ in scoped.rt.forever() {
+        live.seen = connections.bells.rings();
+        give_back_ended(scoped.rt, net, pass, connections, &mut live.links);
+        if let Some(spawned) = serve_next(scoped, spawner, net, pass, connections, live) {
             return spawned;
         }
-        if let Some(spawned) = start_warden(rt, scope, spawner, pass, connections, warden) {
+        if let Some(spawned) = start_warden(scoped, spawner, pass, connections, &mut live.warden) {
             return spawned;
         }
     }
@@ -223,14 +234,12 @@ where
 
 // Serves the next link. Where none is there it waits until one may be, or one of those that are served has ended.
 fn serve_next<'s, 'a, 'b, E, K: Keeper + Send + Drop, N: Net, R: Around + Eprint>(
-    rt: &'s R,
-    scope: &Scope<'s, E>,
+    scoped: &Scoped<'_, 's, E, R>,
     spawner: &mut Spawner,
     net: &mut N,
     pass: &mut ServerPass<K>,
     connections: &mut Connections<'a, 'b, K, N>,
-    live: &mut Slab<Started<K, N::Link>>,
-    seen: u64,
+    live: &mut Live<K, N::Link>,
 ) -> Option<Spawned>
 where
     'a: 's,
@@ -240,32 +249,33 @@ where
     <N::Link as Link>::Bell: 's,
     N::DoorBell: 's,
     requires pass { IsServerPass K.kept connections.old.server.now.lock pass.old }
-    requires kept { AllServe (λ one. one.handle.promise.0.value) connections.old.server.now live.old }
+    requires kept { AllServe (λ one. one.handle.promise.0.value) connections.old.server.now live.old.links }
     ensures pass { IsServerPass K.kept connections.new.server.now.lock pass.new }
     ensures server { connections.new.server ≡ connections.old.server }
     ensures goes { GoesOn N.faults N.bad N.ended (back_of N.Link.faults N.Link.closes N.Link.given N.Link.got)
-        (moment net.old connections.old.left connections.old.begun.items connections.old.back.items connections.old.failed connections.old.wants pass.old.pass)
-        (moment net.new connections.new.left connections.new.begun.items connections.new.back.items connections.new.failed connections.new.wants pass.new.pass) }
-    ensures back { connections.new.back ≡ connections.old.back }
-    ensures each { length connections.new.begun.items + slab_len live.old ≡ length connections.old.begun.items + slab_len live.new + refused_by result }
-    ensures over { IfSome result (λ s. (s ≡ spawned.All) → (connections.new.left ≡ 0) ⊎ ((connections.new.failed ≡ true) ⊎ (connections.new.wants ≡ true))) }
-    ensures kept { AllServe (λ one. one.handle.promise.0.value) connections.old.server.now live.new }
+        (moment net.old connections.old.tally pass.old.pass) (moment net.new connections.new.tally pass.new.pass) }
+    ensures back { connections.new.tally.back ≡ connections.old.tally.back }
+    ensures each { length connections.new.tally.begun.items + slab_len live.old.links ≡ length connections.old.tally.begun.items + slab_len live.new.links + refused_by result }
+    ensures over { IfSome result (λ s. s ≡ spawned.All → NoneComes connections.new.tally) }
+    ensures kept { AllServe (λ one. one.handle.promise.0.value) connections.old.server.now live.new.links }
+    ensures warden { live.new.warden ≡ live.old.warden }
     ensures faults { faults_of spawner.new ≡ faults_of spawner.old + refused_by result }
 {
+    let rt = scoped.rt;
     if connections.is_over() {
         return Some(Spawned::All);
     }
-    if make_room(rt, connections, live).is_err() {
+    if make_room(rt, connections, &mut live.links).is_err() {
         return Some(Spawned::NoMemory);
     }
     let Some(connection) = connections.next(rt, net, pass) else {
-        connections.rest(rt, seen);
+        connections.rest(rt, live.seen);
         return None;
     };
-    let key = live.vacant_key();
-    match start(rt, scope, spawner, connection, key) {
+    let key = live.links.vacant_key();
+    match start(scoped, spawner, connection, key) {
         Some(one) => {
-            live.insert_reserved(one);
+            live.links.insert_reserved(one);
             None
         }
         None => Some(Spawned::Failed),
@@ -300,10 +310,9 @@ fn give_back_ended<K: Keeper + Drop, N: Net, R: Around>(
     ensures pass { IsServerPass K.kept connections.new.server.now.lock pass.new }
     ensures server { connections.new.server ≡ connections.old.server }
     ensures goes { GoesOn N.faults N.bad N.ended (back_of N.Link.faults N.Link.closes N.Link.given N.Link.got)
-        (moment net.old connections.old.left connections.old.begun.items connections.old.back.items connections.old.failed connections.old.wants pass.old.pass)
-        (moment net.new connections.new.left connections.new.begun.items connections.new.back.items connections.new.failed connections.new.wants pass.new.pass) }
-    ensures begun { connections.new.begun ≡ connections.old.begun }
-    ensures each { length connections.new.back.items + slab_len live.new ≡ length connections.old.back.items + slab_len live.old }
+        (moment net.old connections.old.tally pass.old.pass) (moment net.new connections.new.tally pass.new.pass) }
+    ensures begun { connections.new.tally.begun ≡ connections.old.tally.begun }
+    ensures each { length connections.new.tally.back.items + slab_len live.new ≡ length connections.old.tally.back.items + slab_len live.old }
     ensures kept { AllServe (λ one. one.handle.promise.0.value) connections.old.server.now live.new }
 {
     for _ in rt.forever() {
@@ -329,10 +338,9 @@ fn give_back<K: Keeper + Drop, N: Net, R: Around>(
     ensures pass { IsServerPass K.kept connections.new.server.now.lock pass.new }
     ensures server { connections.new.server ≡ connections.old.server }
     ensures goes { GoesOn N.faults N.bad N.ended (back_of N.Link.faults N.Link.closes N.Link.given N.Link.got)
-        (moment net.old connections.old.left connections.old.begun.items connections.old.back.items connections.old.failed connections.old.wants pass.old.pass)
-        (moment net.new connections.new.left connections.new.begun.items connections.new.back.items connections.new.failed connections.new.wants pass.new.pass) }
-    ensures begun { connections.new.begun ≡ connections.old.begun }
-    ensures each { length connections.new.back.items + slab_len live.new ≡ length connections.old.back.items + slab_len live.old }
+        (moment net.old connections.old.tally pass.old.pass) (moment net.new connections.new.tally pass.new.pass) }
+    ensures begun { connections.new.tally.begun ≡ connections.old.tally.begun }
+    ensures each { length connections.new.tally.back.items + slab_len live.new ≡ length connections.old.tally.back.items + slab_len live.old }
     ensures kept { AllServe (λ one. one.handle.promise.0.value) connections.old.server.now live.new }
 {
     if let Some(one) = live.try_remove(key) {
@@ -354,11 +362,8 @@ fn finish_all<K: Keeper + Drop, N: Net, R: Around>(
     ensures pass { IsServerPass K.kept connections.new.server.now.lock pass.new }
     ensures server { connections.new.server ≡ connections.old.server }
     ensures goes { GoesOn N.faults N.bad N.ended (back_of N.Link.faults N.Link.closes N.Link.given N.Link.got)
-        (moment net.old connections.old.left connections.old.begun.items connections.old.back.items connections.old.failed connections.old.wants pass.old.pass)
-        (moment net.new connections.new.left connections.new.begun.items connections.new.back.items connections.new.failed connections.new.wants pass.new.pass) }
-    ensures others { (connections.new.left ≡ connections.old.left) × (connections.new.begun ≡ connections.old.begun) × (connections.new.failed ≡ connections.old.failed) }
-    ensures back { length connections.new.back.items ≡ length connections.old.back.items + slab_len live }
-    ensures wants { connections.old.wants ≡ true → connections.new.wants ≡ true }
+        (moment net.old connections.old.tally pass.old.pass) (moment net.new connections.new.tally pass.new.pass) }
+    ensures gone { GivesBack (slab_len live) connections.old.tally connections.new.tally }
 {
     for entry in live {
         let (_, one) = entry;
@@ -374,6 +379,7 @@ fn join<K: Keeper + Drop, L: Link + Drop, R: Around>(rt: &R, started: Started<K,
     handle.join(rt)
 }
 
+// Serves all links, waits for those that are left, and lets the warden end.
 fn run_in<'s, 'a, 'b, E, K: Keeper + Send + Drop, N: Net, R: Around + Eprint>(
     rt: &'s R,
     scope: &Scope<'s, E>,
@@ -393,25 +399,19 @@ where
     ensures pass { IsServerPass K.kept connections.new.server.now.lock pass.new }
     ensures server { connections.new.server ≡ connections.old.server }
     ensures goes { GoesOn N.faults N.bad N.ended (back_of N.Link.faults N.Link.closes N.Link.given N.Link.got)
-        (moment net.old connections.old.left connections.old.begun.items connections.old.back.items connections.old.failed connections.old.wants pass.old.pass)
-        (moment net.new connections.new.left connections.new.begun.items connections.new.back.items connections.new.failed connections.new.wants pass.new.pass) }
-    ensures each { result ≡ spawned.All → length connections.new.begun.items + length connections.old.back.items ≡ length connections.old.begun.items + length connections.new.back.items }
-    ensures over { (result ≡ spawned.All) → (connections.new.left ≡ 0) ⊎ ((connections.new.failed ≡ true) ⊎ (connections.new.wants ≡ true)) }
+        (moment net.old connections.old.tally pass.old.pass) (moment net.new connections.new.tally pass.new.pass) }
+    ensures each { result ≡ spawned.All → AllEnded connections.old.tally connections.new.tally }
     ensures faults { faults_of spawner.new ≡ faults_of spawner.old + refused result }
 {
-    let mut live = Slab::new(rt.alloc());
-    let mut warden = None;
-    let spawned = serve_all(
-        rt,
-        scope,
-        spawner,
-        net,
-        pass,
-        connections,
-        &mut live,
-        &mut warden,
-    );
-    finish_all(rt, net, pass, connections, live);
+    let scoped = Scoped { rt, scope };
+    let mut live = Live {
+        links: Slab::new(rt.alloc()),
+        warden: None,
+        seen: 0,
+    };
+    let spawned = serve_all(&scoped, spawner, net, pass, connections, &mut live);
+    let Live { links, warden, .. } = live;
+    finish_all(rt, net, pass, connections, links);
     end_warden(rt, pass, connections, warden);
     spawned
 }
@@ -420,11 +420,9 @@ where
 #[derive(Drop)]
 pub struct Ran<L: Link + Drop> {
     pub spawned: Spawned,
-    pub left: u32,
     pub failed: bool,
     pub wants: bool,
-    pub begun: Snapshot<Trace<u64>>,
-    pub back: Snapshot<Trace<Snapshot<L>>>,
+    pub tally: Snapshot<Tally<L>>,
 }
 
 // Threads may borrow what outlives the scope. What is lent is given back, and what becomes of the links is written to `ran`.
@@ -446,10 +444,9 @@ fn run_scoped<'c, 'p, 'n, 'r, 'q, 'a, 'b, K: Keeper + Send + Drop, N: Net, R: Ar
     ensures same { (result.0.ghost_name ≡ net.entry.ghost_name) × (result.1.ghost_name ≡ spawner.entry.ghost_name) × (result.2.ghost_name ≡ ran.entry.ghost_name) × (result.3.ghost_name ≡ pass.entry.ghost_name) }
     ensures pass { IsServerPass K.kept connections.entry.now.server.now.lock result.3.now }
     ensures goes { GoesOn N.faults N.bad N.ended (back_of N.Link.faults N.Link.closes N.Link.given N.Link.got)
-        (moment net.entry.now connections.entry.now.left connections.entry.now.begun.items connections.entry.now.back.items connections.entry.now.failed connections.entry.now.wants pass.entry.now.pass)
-        (moment result.0.now result.2.now.left result.2.now.begun.value.items result.2.now.back.value.items result.2.now.failed result.2.now.wants result.3.now.pass) }
-    ensures each { result.2.now.spawned ≡ spawned.All → length result.2.now.begun.value.items + length connections.entry.now.back.items ≡ length connections.entry.now.begun.items + length result.2.now.back.value.items }
-    ensures over { (result.2.now.spawned ≡ spawned.All) → (result.2.now.left ≡ 0) ⊎ ((result.2.now.failed ≡ true) ⊎ (result.2.now.wants ≡ true)) }
+        (moment net.entry.now connections.entry.now.tally pass.entry.now.pass) (moment result.0.now result.2.now.tally.value result.3.now.pass) }
+    ensures each { result.2.now.spawned ≡ spawned.All → AllEnded connections.entry.now.tally result.2.now.tally.value }
+    ensures values { (result.2.now.failed ≡ result.2.now.tally.value.failed) × (result.2.now.wants ≡ result.2.now.tally.value.wants) }
     ensures faults { faults_of result.1.now ≡ faults_of spawner.entry.now + refused result.2.now.spawned }
 {
     thread::scope(
@@ -464,8 +461,7 @@ fn run_scoped<'c, 'p, 'n, 'r, 'q, 'a, 'b, K: Keeper + Send + Drop, N: Net, R: Ar
         )
             requires { IsServerPass K.kept connections.now.server.now.lock pass.now }
             ensures { (result.0.ghost_name ≡ net.entry.ghost_name) × (result.1.ghost_name ≡ spawner.entry.ghost_name) × (result.2.ghost_name ≡ ran.entry.ghost_name) × (result.3.ghost_name ≡ pass.entry.ghost_name) × IsServerPass K.kept connections.entry.now.server.now.lock result.3.now × GoesOn N.faults N.bad N.ended (back_of N.Link.faults N.Link.closes N.Link.given N.Link.got)
-                (moment net.entry.now connections.entry.now.left connections.entry.now.begun.items connections.entry.now.back.items connections.entry.now.failed connections.entry.now.wants pass.entry.now.pass)
-                (moment result.0.now result.2.now.left result.2.now.begun.value.items result.2.now.back.value.items result.2.now.failed result.2.now.wants result.3.now.pass) × (result.2.now.spawned ≡ spawned.All → length result.2.now.begun.value.items + length connections.entry.now.back.items ≡ length connections.entry.now.begun.items + length result.2.now.back.value.items) × ((result.2.now.spawned ≡ spawned.All) → (result.2.now.left ≡ 0) ⊎ ((result.2.now.failed ≡ true) ⊎ (result.2.now.wants ≡ true))) × (faults_of result.1.now ≡ faults_of spawner.entry.now + refused result.2.now.spawned) }
+                (moment net.entry.now connections.entry.now.tally pass.entry.now.pass) (moment result.0.now result.2.now.tally.value result.3.now.pass) × (result.2.now.spawned ≡ spawned.All → AllEnded connections.entry.now.tally result.2.now.tally.value) × ((result.2.now.failed ≡ result.2.now.tally.value.failed) × (result.2.now.wants ≡ result.2.now.tally.value.wants)) × (faults_of result.1.now ≡ faults_of spawner.entry.now + refused result.2.now.spawned) }
         {
             let spawned = run_in(rt, scope, spawner, net, pass, connections);
             *ran = ran_of(spawned, connections);
@@ -479,16 +475,14 @@ fn ran_of<K: Keeper + Drop, N: Net>(
     spawned: Spawned,
     connections: &Connections<'_, '_, K, N>,
 ) -> Ran<N::Link>
-    ensures values { (result.spawned ≡ spawned) × (result.left ≡ connections.now.left) × (result.failed ≡ connections.now.failed) × (result.wants ≡ connections.now.wants) }
-    ensures traces { (result.begun.value ≡ connections.now.begun) × (result.back.value ≡ connections.now.back) }
+    ensures values { (result.spawned ≡ spawned) × (result.failed ≡ result.tally.value.failed) × (result.wants ≡ result.tally.value.wants) }
+    ensures tally { result.tally.value ≡ connections.now.tally }
 {
     Ran {
         spawned,
-        left: connections.left,
-        failed: connections.failed,
-        wants: connections.wants,
-        begun: Snapshot::of(&connections.begun),
-        back: Snapshot::of(&connections.back),
+        failed: connections.tally.failed,
+        wants: connections.tally.wants,
+        tally: Snapshot::of(&connections.tally),
     }
 }
 
@@ -503,10 +497,9 @@ pub fn run_all<K: Keeper + Send + Drop, N: Net, R: Around + Eprint>(
     requires { IsServerPass K.kept connections.old.server.now.lock pass.old }
     ensures pass { IsServerPass K.kept connections.old.server.now.lock pass.new }
     ensures goes { GoesOn N.faults N.bad N.ended (back_of N.Link.faults N.Link.closes N.Link.given N.Link.got)
-        (moment net.old connections.old.left connections.old.begun.items connections.old.back.items connections.old.failed connections.old.wants pass.old.pass)
-        (moment net.new result.left result.begun.value.items result.back.value.items result.failed result.wants pass.new.pass) }
-    ensures each { result.spawned ≡ spawned.All → length result.begun.value.items + length connections.old.back.items ≡ length connections.old.begun.items + length result.back.value.items }
-    ensures over { (result.spawned ≡ spawned.All) → (result.left ≡ 0) ⊎ ((result.failed ≡ true) ⊎ (result.wants ≡ true)) }
+        (moment net.old connections.old.tally pass.old.pass) (moment net.new result.tally.value pass.new.pass) }
+    ensures each { result.spawned ≡ spawned.All → AllEnded connections.old.tally result.tally.value }
+    ensures values { (result.failed ≡ result.tally.value.failed) × (result.wants ≡ result.tally.value.wants) }
     ensures faults { faults_of spawner.new ≡ faults_of spawner.old + refused result.spawned }
 {
     let mut ran = ran_of(Spawned::NoMemory, connections);

@@ -28,7 +28,7 @@ returns-clause-serves g c =
     let k = c.new-keeper.result in
     let l = c.serve_kept-ending.result.0 in
     moved
-    (λ (o : Store) (d x : g.row.D.Denot). ServesOn (view_of o) c.args.count c.serve_kept-ending.result.1 (record { tells = tells; disk = view d; disk_after = view x; counts = counts d; counts_after = counts x; links = links; links_after = later }))
+    (λ (o : Store) (d x : g.row.D.Denot). ServesOn (view_of o) c.args.to.count c.serve_kept-ending.result.1 (record { tells = tells; disk = view d; disk_after = view x; counts = counts d; counts_after = counts x; links = links; links_after = later }))
     k.store.now k.disk.now l.disk.now c.args.store.now c.args.disk.now c.disk-1.given.0
     c.serve_kept-ending.ensures.serves
     (search rules) (search rules) (search rules)

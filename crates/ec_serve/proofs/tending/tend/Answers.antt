@@ -1,4 +1,4 @@
-use Rattle.std.proofs.Common.{false, length, refl, sym, ap, subst}
+use Rattle.std.proofs.Common.{length, refl, sym, ap, ◌∙◌, subst}
 use Rattle.ec_link.specs.Spawns.{faults_of}
 use Rattle.ec_lock.specs.PassViews.{front, numbers}
 use Rattle.ec_serve.specs.OfThreads.ServingMoments.{back_of, moment}
@@ -31,12 +31,14 @@ returns-clause-tends g c =
     let starts = faults_of c.args.spawner.now in
     let later = faults_of c.run_all-ran.new.spawner in
     let pass = c.run_all-ran.new.pass.pass in
-    let first = moment net c.args.count c.new-3.result.items c.new-4.result.items false false c.args.pass.now.pass in
-    let final = moment last ran_so.left ran_so.begun.value.items ran_so.back.value.items ran_so.failed ran_so.wants pass in
+    let fresh = c.new-3.ensures in
+    let first = moment net c.new-3.result c.args.pass.now.pass in
+    let final = moment last ran_so.tally.value pass in
     let opened = c.open.ensures in
     let old : Outer = record { faults = faults c.args.net.now; bad = bad c.args.net.now; ended = ended c.args.net.now; starts = starts } in
-    let t : Tended faults bad ended back first final c.args.count spawned starts later =
-    record { goes = ran.goes; left = refl; begun = ap length c.new-3.ensures; back = c.new-4.ensures; failed = refl; each = ran.each; over = ran.over; spawns = ran.faults } in
-    let all = tends_before c.args.count (tended_of spawned ran_so.failed ran_so.wants) (numbers pass) (front pass) old (outer faults bad ended back starts net) (outer faults bad ended back later last) (no_fault (faults c.args.net.now) (faults net) _ opened.faults) opened.same.0 opened.same.1 refl
-    (tends faults bad ended back first final c.args.count spawned starts later t) in
-    subst (λ r. Tends c.args.count r (numbers pass) (front pass) old (outer faults bad ended back later last)) (sym c.tended_of.ensures) all
+    let t : Tended faults bad ended back first final c.args.to.count spawned starts later =
+    record { goes = ran.goes; left = fresh.links.0; begun = ap length fresh.links.1; back = fresh.links.2; failed = fresh.fine.0; each = λ all. (ran.each all).0; over = λ all. (ran.each all).1; spawns = ran.faults } in
+    let all = tends_before c.args.to.count (tended_of spawned final.failed final.wants) (numbers pass) (front pass) old (outer faults bad ended back starts net) (outer faults bad ended back later last) (no_fault (faults c.args.net.now) (faults net) _ opened.faults) opened.same.0 opened.same.1 refl
+    (tends faults bad ended back first final c.args.to.count spawned starts later t) in
+    let same = ap (λ b. tended_of spawned b ran_so.wants) ran.values.0 ∙ ap (λ b. tended_of spawned final.failed b) ran.values.1 in
+    subst (λ r. Tends c.args.to.count r (numbers pass) (front pass) old (outer faults bad ended back later last)) (sym (c.tended_of.ensures ∙ same)) all

@@ -27,9 +27,9 @@ loop-entry-preserved g c =
       done.pass,
       done.server ∙ inv.1,
       goes_onward g.N.Net.faults g.N.Net.bad g.N.Net.ended (back_of g.N.Link.Link.faults g.N.Link.Link.closes g.N.Link.Link.given g.N.Link.Link.got) _ _ _ inv.2 done.goes,
-      (done.others.0 ∙ inv.3.0, done.others.1 ∙ inv.3.1, done.others.2 ∙ inv.3.2),
-      (let back = done.back in let before = inv.4 in let size = ap length c.in-Some.ensures.steps in omega (arith, size, back, before)),
-      (λ wants. done.wants (inv.5 wants)),
+      (done.gone.0 ∙ inv.3.0, done.gone.1 ∙ inv.3.1, done.gone.2 ∙ inv.3.2),
+      (let back = done.gone.3 in let before = inv.4 in let size = ap length c.in-Some.ensures.steps in omega (arith, size, back, before)),
+      (λ wants. done.gone.4 (inv.5 wants)),
       All-rest (λ e. e.1.handle.promise.0.value ≡ server) c.in-Some.entry c.next.new.self c.loop-entry.entry-iterator c.in-Some.ensures.steps inv.6,
     )
 
@@ -45,7 +45,8 @@ loop-entry-init g c =
       subst (All (λ e. e.1.handle.promise.0.value ≡ server)) (sym c.into_iter-entry-iterator.ensures.into_iter_gives) (all_entries (λ one. one.handle.promise.0.value) server c.args.live c.requires.kept),
     )
 
-pub returns-clause-back : goal.returns-clause-back
-returns-clause-back g c =
-    let inv = c.loop-entry.invariant.4 in
-    let none = ap length c.in-None.ensures.steps.0 in omega (arith, inv, none)
+pub returns-clause-gone : goal.returns-clause-gone
+returns-clause-gone g c =
+    let inv = c.loop-entry.invariant in
+    let back = inv.4 in
+    let none = ap length c.in-None.ensures.steps.0 in (inv.3.0, inv.3.1, inv.3.2, omega (arith, back, none), inv.5)

@@ -10,8 +10,7 @@ invariant-loop g l =
     × IsServerPass g.K.Keeper.kept l.connections.server.now.lock l.pass
     × (l.connections.server ≡ l.fn.connections.server)
     × GoesOn g.N.Net.faults g.N.Net.bad g.N.Net.ended (back_of g.N.Link.Link.faults g.N.Link.Link.closes g.N.Link.Link.given g.N.Link.Link.got)
-    (moment l.fn.net l.fn.connections.left l.fn.connections.begun.items l.fn.connections.back.items l.fn.connections.failed l.fn.connections.wants l.fn.pass.pass)
-    (moment l.net l.connections.left l.connections.begun.items l.connections.back.items l.connections.failed l.connections.wants l.pass.pass)
-    × (l.connections.begun ≡ l.fn.connections.begun)
-    × (length l.connections.back.items + slab_len l.live ≡ length l.fn.connections.back.items + slab_len l.fn.live)
+    (moment l.fn.net l.fn.connections.tally l.fn.pass.pass) (moment l.net l.connections.tally l.pass.pass)
+    × (l.connections.tally.begun ≡ l.fn.connections.tally.begun)
+    × (length l.connections.tally.back.items + slab_len l.live ≡ length l.fn.connections.tally.back.items + slab_len l.fn.live)
     × AllServe (λ one. one.handle.promise.0.value) l.fn.connections.server.now l.live

@@ -1,7 +1,8 @@
-use Rattle.std.proofs.Common.{◌≡◌, ◌+◌, length, IfSome}
+use Rattle.std.proofs.Common.{◌≡◌, IfSome}
 use Rattle.slab.specs.Slab.{slab_len}
 use Rattle.ec_link.specs.Spawns.{faults_of}
 use Rattle.ec_servernode.specs.TurnSteps.{IsServerPass}
+use Rattle.ec_serve.specs.OfThreads.Tallies.{AreLive}
 use Rattle.ec_serve.specs.OfThreads.ServingMoments.{AllServe, back_of, moment, GoesOn}
 use Rattle.ec_serve.proofs.threads.threads.serve_all.Given as goal
 
@@ -11,9 +12,8 @@ invariant-loop g l =
     × IsServerPass g.K.Keeper.kept l.connections.server.now.lock l.pass
     × (l.connections.server ≡ l.fn.connections.server)
     × GoesOn g.N.Net.faults g.N.Net.bad g.N.Net.ended (back_of g.N.Link.Link.faults g.N.Link.Link.closes g.N.Link.Link.given g.N.Link.Link.got)
-    (moment l.fn.net l.fn.connections.left l.fn.connections.begun.items l.fn.connections.back.items l.fn.connections.failed l.fn.connections.wants l.fn.pass.pass)
-    (moment l.net l.connections.left l.connections.begun.items l.connections.back.items l.connections.failed l.connections.wants l.pass.pass)
-    × (length l.connections.begun.items + length l.fn.connections.back.items + slab_len l.fn.live ≡ length l.fn.connections.begun.items + length l.connections.back.items + slab_len l.live)
-    × AllServe (λ one. one.handle.promise.0.value) l.fn.connections.server.now l.live
-    × IfSome l.warden (λ w. w.handle.promise.0.value ≡ l.fn.connections.server.now)
+    (moment l.fn.net l.fn.connections.tally l.fn.pass.pass) (moment l.net l.connections.tally l.pass.pass)
+    × AreLive l.fn.connections.tally l.connections.tally (slab_len l.fn.live.links) (slab_len l.live.links)
+    × AllServe (λ one. one.handle.promise.0.value) l.fn.connections.server.now l.live.links
+    × IfSome l.live.warden (λ w. w.handle.promise.0.value ≡ l.fn.connections.server.now)
     × (faults_of l.spawner ≡ faults_of l.fn.spawner)

@@ -1,4 +1,3 @@
-use Rattle.std.proofs.Common.{ap}
 use Rattle.ec_serve.specs.OfThreads.ServingMoments.{back_of}
 use Rattle.ec_serve.specs.OfThreads.Goings.{goes_onward}
 use Rattle.ec_serve.proofs.OfThreads.Goes.{goes_looked}
@@ -6,40 +5,23 @@ use Rattle.ec_serve.proofs.threads.threads.serve_next.Goals as goal
 
 pub returns-then-is_over-clause-goes : goal.returns-then-is_over-clause-goes
 returns-then-is_over-clause-goes g c =
-    let old = c.args.connections.now in
-    let now = c.is_over.new.self in
-    let look = c.is_over.ensures in
-    goes_looked g.N.Net.faults g.N.Net.bad g.N.Net.ended (back_of g.N.Link.Link.faults g.N.Link.Link.closes g.N.Link.Link.given g.N.Link.Link.got) c.args.net.now old.left now.left old.begun.items now.begun.items old.back.items now.back.items old.failed now.failed old.wants now.wants c.args.pass.now.pass
-    look.links.0 (ap (λ t. t.items) look.links.1) (ap (λ t. t.items) look.links.2) look.failed look.wants
+    goes_looked g.N.Net.faults g.N.Net.bad g.N.Net.ended (back_of g.N.Link.Link.faults g.N.Link.Link.closes g.N.Link.Link.given g.N.Link.Link.got) c.args.net.now c.args.connections.now.tally c.is_over.new.self.tally c.args.pass.now.pass c.is_over.ensures.tally
 
 pub returns-then-is_err-clause-goes : goal.returns-then-is_err-clause-goes
 returns-then-is_err-clause-goes g c =
-    let old = c.args.connections.now in
-    let now = c.is_over.new.self in
-    let look = c.is_over.ensures in
-    goes_looked g.N.Net.faults g.N.Net.bad g.N.Net.ended (back_of g.N.Link.Link.faults g.N.Link.Link.closes g.N.Link.Link.given g.N.Link.Link.got) c.args.net.now old.left now.left old.begun.items now.begun.items old.back.items now.back.items old.failed now.failed old.wants now.wants c.args.pass.now.pass
-    look.links.0 (ap (λ t. t.items) look.links.1) (ap (λ t. t.items) look.links.2) look.failed look.wants
+    goes_looked g.N.Net.faults g.N.Net.bad g.N.Net.ended (back_of g.N.Link.Link.faults g.N.Link.Link.closes g.N.Link.Link.given g.N.Link.Link.got) c.args.net.now c.args.connections.now.tally c.is_over.new.self.tally c.args.pass.now.pass c.is_over.ensures.tally
 
 pub returns-in_default-clause-goes : goal.returns-in_default-clause-goes
 returns-in_default-clause-goes g c =
-    let old = c.args.connections.now in
-    let now = c.is_over.new.self in
-    let look = c.is_over.ensures in
-    goes_onward g.N.Net.faults g.N.Net.bad g.N.Net.ended (back_of g.N.Link.Link.faults g.N.Link.Link.closes g.N.Link.Link.given g.N.Link.Link.got) _ _ _ (goes_looked g.N.Net.faults g.N.Net.bad g.N.Net.ended (back_of g.N.Link.Link.faults g.N.Link.Link.closes g.N.Link.Link.given g.N.Link.Link.got) c.args.net.now old.left now.left old.begun.items now.begun.items old.back.items now.back.items old.failed now.failed old.wants now.wants c.args.pass.now.pass
-    look.links.0 (ap (λ t. t.items) look.links.1) (ap (λ t. t.items) look.links.2) look.failed look.wants) c.next.ensures.goes
+    goes_onward g.N.Net.faults g.N.Net.bad g.N.Net.ended (back_of g.N.Link.Link.faults g.N.Link.Link.closes g.N.Link.Link.given g.N.Link.Link.got) _ _ _
+    (goes_looked g.N.Net.faults g.N.Net.bad g.N.Net.ended (back_of g.N.Link.Link.faults g.N.Link.Link.closes g.N.Link.Link.given g.N.Link.Link.got) c.args.net.now c.args.connections.now.tally c.is_over.new.self.tally c.args.pass.now.pass c.is_over.ensures.tally) c.next.ensures.goes
 
 pub returns-in-Some-start-clause-goes : goal.returns-in-Some-start-clause-goes
 returns-in-Some-start-clause-goes g c =
-    let old = c.args.connections.now in
-    let now = c.is_over.new.self in
-    let look = c.is_over.ensures in
-    goes_onward g.N.Net.faults g.N.Net.bad g.N.Net.ended (back_of g.N.Link.Link.faults g.N.Link.Link.closes g.N.Link.Link.given g.N.Link.Link.got) _ _ _ (goes_looked g.N.Net.faults g.N.Net.bad g.N.Net.ended (back_of g.N.Link.Link.faults g.N.Link.Link.closes g.N.Link.Link.given g.N.Link.Link.got) c.args.net.now old.left now.left old.begun.items now.begun.items old.back.items now.back.items old.failed now.failed old.wants now.wants c.args.pass.now.pass
-    look.links.0 (ap (λ t. t.items) look.links.1) (ap (λ t. t.items) look.links.2) look.failed look.wants) c.next.ensures.goes
+    goes_onward g.N.Net.faults g.N.Net.bad g.N.Net.ended (back_of g.N.Link.Link.faults g.N.Link.Link.closes g.N.Link.Link.given g.N.Link.Link.got) _ _ _
+    (goes_looked g.N.Net.faults g.N.Net.bad g.N.Net.ended (back_of g.N.Link.Link.faults g.N.Link.Link.closes g.N.Link.Link.given g.N.Link.Link.got) c.args.net.now c.args.connections.now.tally c.is_over.new.self.tally c.args.pass.now.pass c.is_over.ensures.tally) c.next.ensures.goes
 
 pub returns-in-None-clause-goes : goal.returns-in-None-clause-goes
 returns-in-None-clause-goes g c =
-    let old = c.args.connections.now in
-    let now = c.is_over.new.self in
-    let look = c.is_over.ensures in
-    goes_onward g.N.Net.faults g.N.Net.bad g.N.Net.ended (back_of g.N.Link.Link.faults g.N.Link.Link.closes g.N.Link.Link.given g.N.Link.Link.got) _ _ _ (goes_looked g.N.Net.faults g.N.Net.bad g.N.Net.ended (back_of g.N.Link.Link.faults g.N.Link.Link.closes g.N.Link.Link.given g.N.Link.Link.got) c.args.net.now old.left now.left old.begun.items now.begun.items old.back.items now.back.items old.failed now.failed old.wants now.wants c.args.pass.now.pass
-    look.links.0 (ap (λ t. t.items) look.links.1) (ap (λ t. t.items) look.links.2) look.failed look.wants) c.next.ensures.goes
+    goes_onward g.N.Net.faults g.N.Net.bad g.N.Net.ended (back_of g.N.Link.Link.faults g.N.Link.Link.closes g.N.Link.Link.given g.N.Link.Link.got) _ _ _
+    (goes_looked g.N.Net.faults g.N.Net.bad g.N.Net.ended (back_of g.N.Link.Link.faults g.N.Link.Link.closes g.N.Link.Link.given g.N.Link.Link.got) c.args.net.now c.args.connections.now.tally c.is_over.new.self.tally c.args.pass.now.pass c.is_over.ensures.tally) c.next.ensures.goes

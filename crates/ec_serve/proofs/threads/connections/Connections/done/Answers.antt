@@ -25,8 +25,7 @@ returns-clause-goes g c =
     let alone = c.requires.out.2.0 in
     let in_own : Member other.number (numbers other) = subst (Member other.number) (sym alone) (inl refl) in
     goes_back g.N.Net.faults g.N.Net.bad g.N.Net.ended (back_of faults closes given got)
-    (moment c.args.net.now self.left self.begun.items self.back.items self.failed self.wants pass)
-    (moment c.give_back.new.net new.left new.begun.items new.back.items new.failed new.wants joined)
+    (moment c.args.net.now self.tally pass) (moment c.give_back.new.net new.tally joined)
     shot other.number back.faults back.others.0 (ap (λ t. length t.items) back.others.1) back.others.2 back.back.2
     (join.same.0 ∙ ap (λ l. numbers pass ++ l) alone) (λ m. join.apart other.number m in_own) join.later join.own
     (λ e.
