@@ -1,11 +1,12 @@
 #!/usr/bin/env python3
 """Mounts that outlive their links: each of these ends with status 0, and each of its calls is answered.
-Usage: examples/relinks.py PROGRAM [PORT]   (the port is 4791 where none is given, and the 17 above it are used too)
+Usage: examples/relinks.py PROGRAM [PORT]   (the port is 4791 where none is given, and the 15 above it are used too)
 
 The server is killed with -9 and started again under two mounts. A relay breaks the links of two mounts at random moments. The server is stopped for ten
 seconds, and away for ten seconds. A relay holds a mount's link for 30 seconds, longer than the server waits for it: another one reads what it held, and
-then the first one is told exactly what it lost. And where the server is gone for good, a mount ends with status 8, but not before it has called for 30
-seconds. All at once in some 40 seconds."""
+then the first one is told exactly what it lost. A relay cuts each link soon behind the answer to its greeting, for longer than 30 seconds. And where the
+server is gone for good, a mount ends with status 8, but not before it has called for 30 seconds; so it does where somebody takes each link and drops it.
+All at once in some 45 seconds."""
 import os
 import random
 import select
@@ -24,6 +25,8 @@ LONGEST = 90
 CALLS = 60
 PAUSE = 10
 HELD = 30
+SHORT = 0.3
+SHORTS = 35
 
 
 # The second batch is held.
@@ -76,11 +79,11 @@ class Server:
 
 
 class Relay:
-    """Passes what comes at an address on to another one, link by link, and can cut all links."""
+    """Passes what comes at an address on to another one, link by link, and can cut all links. It may pass on greetings and their answers alone."""
 
-    def __init__(self, at, server_at, holds=None):
+    def __init__(self, at, server_at, holds=None, greets_only=False):
         self.door, self.server_at, self.holds = socket.create_server(("127.0.0.1", at)), server_at, holds
-        self.links, self.held = [], threading.Event()
+        self.links, self.held, self.greets_only, self.greeted = [], threading.Event(), greets_only, 0
         threading.Thread(target=self.accept, daemon=True).start()
 
     def accept(self):
@@ -99,6 +102,7 @@ class Relay:
 
     # Where the mount sends what is to be held, the server's side is closed, and the mount's side stays.
     def carry(self, mount, server):
+        greets_only, kept, is_greeted, is_answered = self.greets_only, b"", False, False
         while True:
             for link in select.select([mount, server], [], [], 1)[0]:
                 try:
@@ -109,6 +113,15 @@ class Relay:
                         return
                     if not got:
                         raise OSError
+                    if link is server and not is_answered:
+                        is_answered = True
+                        self.greeted += 1
+                    if link is mount and greets_only:
+                        kept += got
+                        end = 4 + struct.unpack(">I", kept[:4])[0] if len(kept) >= 4 else 4
+                        if is_greeted or len(kept) < max(end, 5):
+                            continue
+                        got, is_greeted = kept[:end], True
                     (server if link is mount else mount).sendall(got)
                 except (OSError, ValueError):
                     close(mount)
@@ -275,6 +288,38 @@ def wrong_where_gone(at):
     return None
 
 
+def wrong_where_short(at):
+    with tempfile.TemporaryDirectory() as folder, Server(at, folder), Relay(at + 1, at, greets_only=True) as relay:
+        mount = Mount(at + 1, "A", "1 create /f\n1 fsync /f\n")
+        end = time.monotonic() + SHORTS
+        while mount.runs() and time.monotonic() < end:
+            time.sleep(SHORT)
+            relay.cut()
+        greeted, relay.greets_only = relay.greeted, False
+        relay.cut()
+        fault = mount.wrong("A is linked again")
+        return fault or (None if greeted > 10 and mount.took > SHORTS else f"{greeted} greetings in {mount.took:.1f} s")
+
+
+# Somebody takes each link and drops it.
+def wrong_where_dropped(at):
+    def drop(door):
+        while True:
+            try:
+                door.accept()[0].close()
+            except OSError:
+                return
+
+    with socket.create_server(("127.0.0.1", at)) as door:
+        threading.Thread(target=drop, args=[door], daemon=True).start()
+        mount = Mount(at, "A", "1 stat /\n")
+        status, out, told = mount.end()
+        close(door)
+    if status != 8 or not 29 <= mount.took <= 45 or "A reached nobody for too long, and calls no more" not in told:
+        return f"status {status} behind {mount.took:.1f} s, {out!r} {told[-600:]!r}"
+    return None
+
+
 def main():
     tests = {
         "the server is killed and started again": wrong_where_killed,
@@ -282,10 +327,12 @@ def main():
         "the server is stopped for a while": wrong_where_stopped,
         "the server is away for a while": wrong_where_away,
         "a link is held for long": wrong_where_held,
+        "each link is cut behind its greeting": wrong_where_short,
         "the server is gone for good": wrong_where_gone,
+        "each link is dropped": wrong_where_dropped,
     }
     faults = {}
-    running = [threading.Thread(target=lambda what, test, at: faults.__setitem__(what, test(at)), args=[what, test, port + 3 * i]) for i, (what, test) in enumerate(tests.items())]
+    running = [threading.Thread(target=lambda what, test, at: faults.__setitem__(what, test(at)), args=[what, test, port + 2 * i]) for i, (what, test) in enumerate(tests.items())]
     for one in running:
         one.start()
     for one in running:

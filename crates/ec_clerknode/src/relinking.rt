@@ -24,10 +24,13 @@ use std::sync::atomic::Ordering;
 use std::sync::{Arc, Wait};
 use std::time::{Clock, Duration};
 
-// Bits of the word that who links again sleeps on: the link is down, and it's to look whether all has ended.
+// Bits of the word that who links again sleeps on: the link is down, it's to look whether all has ended, and the server never
+// answered the greeting by the link that is down.
 const DOWN: u64 = 1;
 
 const OVER: u64 = 2;
+
+const MUTE: u64 = 4;
 
 impl<L: Link> State<L> {
     // Whether this pass may exchange the link now.
@@ -92,9 +95,15 @@ impl<L: Link> SharedClerk<L> {
         self.down.wake_all();
     }
 
-    /// The link is down.
-    pub(crate) fn tell_down(&self) {
-        if self.down.fetch_or(DOWN, Ordering::SeqCst) % 2 == 0 {
+    /// Whether the server never answered the greeting by the link that is down. Of the first link it isn't told.
+    pub fn was_mute(&self) -> bool {
+        self.down.load(Ordering::SeqCst) >= MUTE
+    }
+
+    /// The link is down, and was mute or not.
+    pub(crate) fn tell_down(&self, is_mute: bool) {
+        let bits = if is_mute { DOWN + MUTE } else { DOWN };
+        if self.down.fetch_or(bits, Ordering::SeqCst) % 2 == 0 {
             self.down.wake_all();
         }
     }

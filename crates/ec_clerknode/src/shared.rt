@@ -92,10 +92,11 @@ impl<L: Link> SharedClerk<L> {
         let node = &turn.value;
         let top = node.state.top;
         let is_down = node.state.is_down;
+        let is_mute = node.state.owes;
         self.lock.leave(turn, pass);
         self.lock.raise(pass, top);
         if is_down {
-            self.tell_down();
+            self.tell_down(is_mute);
         }
         if is_news {
             self.bell.ring(rt);

@@ -24,7 +24,7 @@ const FIRST_PAUSE: u64 = 10;
 
 const LAST_PAUSE: u64 = 1000;
 
-// A link that was up for so many seconds was one, so that the time and the pauses begin anew.
+// Behind a link that was up for so many seconds the pauses begin anew.
 const STEADY: u64 = 1;
 
 /// What who links again and the calls tell each other.
@@ -94,8 +94,9 @@ impl Linking {
         }
     }
 
-    // The link has ended, if one was up. Where that was for a moment alone, the time goes on from the one before.
-    fn ended<R: Clock>(&mut self, rt: &R) -> bool {
+    // The link has ended, if one was up. The time goes on from the link before where the server said nothing by this one, and it
+    // was up for a moment alone: whoever takes links and drops them is no server.
+    fn ended<R: Clock>(&mut self, rt: &R, was_mute: bool) -> bool {
         let Some(up) = self.up.take() else {
             return false;
         };
@@ -103,9 +104,11 @@ impl Linking {
             Ok(time) => time >= Duration::from_secs(STEADY),
             Err(_) => false,
         };
-        if is_steady || self.gone.is_none() {
-            self.gone = Instant::now(rt).ok();
+        if is_steady {
             self.rest = 0;
+        }
+        if is_steady || !was_mute || self.gone.is_none() {
+            self.gone = Instant::now(rt).ok();
         }
         true
     }
@@ -218,7 +221,7 @@ fn keep_linked<M: Lending, R: Around + Eprint>(
         if !is_down {
             continue;
         }
-        if linking.ended(rt) {
+        if linking.ended(rt, clerk.was_mute()) {
             tell_gone(rt, who);
         }
         let Some(link) = linking.call_until(rt, net, who, beside) else {
