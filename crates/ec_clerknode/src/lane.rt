@@ -29,13 +29,25 @@ pub struct Replied {
     pub end: Result<(), NodeFault>,
 }
 
+// A lane's way through the gate.
+#[derive(Drop)]
+struct Way<'a, G: Gate> {
+    gate: &'a G,
+    lane: u8,
+}
+
+impl<G: Gate> Way<'_, G> {
+    fn pass(&self, place: u32) {
+        self.gate.pass(self.lane, place);
+    }
+}
+
 // Makes the calls up to the first fault. Each answer goes behind those before it.
 fn make_calls<L: Link, G: Gate, R: Wait + Clock>(
     rt: &R,
     clerk: &SharedClerk<L>,
     pass: &mut Pass<Node<L>>,
-    gate: &G,
-    lane: u8,
+    way: &Way<'_, G>,
     calls: Vec<Call>,
     replies: &mut Vec<Reply>,
 ) -> Result<(), NodeFault>
@@ -46,12 +58,12 @@ fn make_calls<L: Link, G: Gate, R: Wait + Clock>(
     replies.reserve(calls.len())?;
     let mut place = 1u32;
     'calls: for call in calls {
-        gate.pass(lane, place);
+        way.pass(place);
         let reply = clerk.call_op(rt, pass, call)?;
         replies.push(reply)?;
         place = place.saturating_add(1);
     }
-    gate.pass(lane, place);
+    way.pass(place);
     Ok(())
 }
 
@@ -68,6 +80,7 @@ pub fn run_lane<L: Link, G: Gate, R: Wait + Clock>(
     ensures { LaneRan clerk.now.lock pass.old calls.items pass.new result.replies.items result.end }
 {
     let mut replies = Vec::new(clerk.alloc);
-    let end = make_calls(rt, clerk, pass, gate, lane, calls, &mut replies);
+    let way = Way { gate, lane };
+    let end = make_calls(rt, clerk, pass, &way, calls, &mut replies);
     Replied { replies, end }
 }

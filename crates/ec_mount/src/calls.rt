@@ -194,16 +194,16 @@ fn run_both<L: Link + Send, R: Threads + Wait + Clock + Eprint + Sync>(
     alloc: Global,
     who: &Who<'_>,
     clerk: &SharedClerk<L>,
-    one: Pass<Node<L>>,
-    two: Pass<Node<L>>,
+    passes: (Pass<Node<L>>, Pass<Node<L>>),
     lanes: Vec<List<Call>>,
 ) -> Result<Both<L>, NodeFault>
-    requires one { IsPassOf clerk.now.lock one }
-    requires two { IsPassOf clerk.now.lock two }
-    ensures lanes { IfOk result (λ b. LanesCame clerk.now.lock (front one) one lanes.items b.lanes (lists_of b.all.lanes) b.all.end) }
-    ensures worker { IfOk result (λ b. HasFlushed clerk.now.lock two b.worker b.met) }
+    requires one { IsPassOf clerk.now.lock passes.0 }
+    requires two { IsPassOf clerk.now.lock passes.1 }
+    ensures lanes { IfOk result (λ b. LanesCame clerk.now.lock (front passes.0) passes.0 lanes.items b.lanes (lists_of b.all.lanes) b.all.end) }
+    ensures worker { IfOk result (λ b. HasFlushed clerk.now.lock passes.1 b.worker b.met) }
     ensures err { IfErr result (λ f. f ≡ fault.NoMemory) }
 {
+    let (one, two) = passes;
     let progress = Progress::new(who);
     let mut sides = Vec::with_capacity(alloc, 2)?;
     sides.push(Side {
@@ -263,10 +263,10 @@ fn run_beside<L: Link + Send, R: Threads + Wait + Clock + Eprint + Sync>(
     requires { IsPassOf clerk.now.lock pass.old }
     ensures { RanBeside clerk.now.lock pass.old lanes.items pass.new (lists_of result.lanes) result.end }
 {
-    let Ok((one, two)) = draw_two(rt, clerk, pass) else {
+    let Ok(passes) = draw_two(rt, clerk, pass) else {
         return none(alloc);
     };
-    let Ok(both) = run_both(rt, alloc, who, clerk, one, two, lanes) else {
+    let Ok(both) = run_both(rt, alloc, who, clerk, passes, lanes) else {
         return none(alloc);
     };
     clerk.join(pass, both.lanes);

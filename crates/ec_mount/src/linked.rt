@@ -19,11 +19,7 @@ use ec_clerknode::{Node, SharedClerk};
 use ec_link::{Around, Link, Net};
 use ec_lock::Pass;
 use ec_plain::Call;
-use std::alloc::Global;
 use std::io::Eprint;
-use std::sync::Wait;
-use std::thread::Threads;
-use std::time::Clock;
 use std::{mem, thread};
 
 /// The pass with this number exchanges links: the first that is drawn.
@@ -47,9 +43,8 @@ struct Part<M: Lending> {
 }
 
 // Makes the calls, and tells who links again that they have ended.
-fn call_all<L: Link + Send, R: Threads + Wait + Clock + Eprint + Sync>(
+fn call_all<L: Link + Send, R: Around + Eprint>(
     rt: &R,
-    alloc: Global,
     who: &Who<'_>,
     clerk: &SharedClerk<L>,
     pass: &mut Pass<Node<L>>,
@@ -61,7 +56,7 @@ fn call_all<L: Link + Send, R: Threads + Wait + Clock + Eprint + Sync>(
     ensures { Called clerk.now.lock pass.old lanes.items pass.new (lists_of result.lanes) result.last }
 {
     beside.wait_for_linker(rt);
-    let made = make_calls(rt, alloc, who, clerk, pass, lanes);
+    let made = make_calls(rt, rt.alloc(), who, clerk, pass, lanes);
     beside.end();
     clerk.wake_linker();
     made
@@ -69,7 +64,6 @@ fn call_all<L: Link + Send, R: Threads + Wait + Clock + Eprint + Sync>(
 
 fn run_part<M: Lending, R: Around + Eprint>(
     rt: &R,
-    alloc: Global,
     who: &Who<'_>,
     clerk: &SharedClerk<M::Link>,
     part: &mut Part<M>,
@@ -85,8 +79,8 @@ fn run_part<M: Lending, R: Around + Eprint>(
             part.did = Some(Did::Linked(linked));
         }
         None => {
-            let lanes = mem::replace(&mut part.lanes, Vec::new(alloc));
-            let made = call_all(rt, alloc, who, clerk, &mut part.pass, lanes, beside);
+            let lanes = mem::replace(&mut part.lanes, Vec::new(rt.alloc()));
+            let made = call_all(rt, who, clerk, &mut part.pass, lanes, beside);
             part.did = Some(Did::Called(made));
         }
     }
@@ -95,7 +89,6 @@ fn run_part<M: Lending, R: Around + Eprint>(
 // Runs all parts at the same time, the first one in a thread of its own, or last where none can be started.
 fn run_parts<M: Lending, R: Around + Eprint>(
     rt: &R,
-    alloc: Global,
     who: &Who<'_>,
     clerk: &SharedClerk<M::Link>,
     parts: &mut [Part<M>],
@@ -109,14 +102,13 @@ fn run_parts<M: Lending, R: Around + Eprint>(
         requires { IsSync R.row × IsReady clerk.now.lock part.now.pass part.now.lent }
         ensures { PartRan clerk.entry.now.lock M.name (λ m. record { faults = M.faults m; bad = M.bad m; ended = M.ended m }) (λ l. M.Link.faults l + M.Link.closes l) M.Link.given M.Link.got
             part.entry.now.lent part.entry.now.pass part.entry.now.lanes.items part.exit.now.lent part.exit.now.pass part.exit.now.did }
-    { run_part(rt, alloc, who, clerk, part, beside) };
+    { run_part(rt, who, clerk, part, beside) };
     thread::for_each_mut(rt, parts, 2, &one);
 }
 
 // Runs both at the same time. For want of memory neither has run.
 fn run_two<M: Lending + Drop, R: Around + Eprint>(
     rt: &R,
-    alloc: Global,
     who: &Who<'_>,
     clerk: &SharedClerk<M::Link>,
     one: Part<M>,
@@ -129,7 +121,7 @@ fn run_two<M: Lending + Drop, R: Around + Eprint>(
     ensures two { PartRan clerk.now.lock M.name (λ m. record { faults = M.faults m; bad = M.bad m; ended = M.ended m }) (λ l. M.Link.faults l + M.Link.closes l) M.Link.given M.Link.got
         two.lent two.pass two.lanes.items result.1.lent result.1.pass result.1.did }
 {
-    let Ok(mut parts) = Vec::with_capacity(alloc, 2) else {
+    let Ok(mut parts) = Vec::with_capacity(rt.alloc(), 2) else {
         return (one, two);
     };
     let Ok(()) = parts.push(one) else {
@@ -138,7 +130,7 @@ fn run_two<M: Lending + Drop, R: Around + Eprint>(
     let Ok(()) = parts.push(two) else {
         unreachable!();
     };
-    run_parts(rt, alloc, who, clerk, &mut parts, &Beside::new());
+    run_parts(rt, who, clerk, &mut parts, &Beside::new());
     let Some(two) = parts.pop() else {
         unreachable!();
     };
@@ -157,28 +149,28 @@ struct Both<L: Link> {
     called: Option<Did>,
 }
 
-// Links again by the net that is lent, and makes the calls at the same time. The net comes back.
+// Links again by the net that is lent and the first of these passes, and makes the calls by the second one at the same time. The
+// net comes back.
 fn run_both<M: Lending + Drop, R: Around + Eprint>(
     rt: &R,
-    alloc: Global,
     who: &Who<'_>,
     clerk: &SharedClerk<M::Link>,
     lent: &mut Option<M>,
-    other: Pass<Node<M::Link>>,
-    pass: Pass<Node<M::Link>>,
+    passes: (Pass<Node<M::Link>>, Pass<Node<M::Link>>),
     lanes: Vec<List<Call>>,
 ) -> Both<M::Link>
     requires lent { lent.old ≡ None → ⊥ }
-    requires other { IsPassOf clerk.now.lock other }
-    requires pass { IsPassOf clerk.now.lock pass × (calls_by pass.number (front pass) ≡ []) }
+    requires other { IsPassOf clerk.now.lock passes.0 }
+    requires pass { IsPassOf clerk.now.lock passes.1 × (calls_by passes.1.number (front passes.1) ≡ []) }
     ensures linked { PartRan clerk.now.lock M.name (λ m. record { faults = M.faults m; bad = M.bad m; ended = M.ended m }) (λ l. M.Link.faults l + M.Link.closes l) M.Link.given M.Link.got
-        lent.old other [] lent.new result.other result.linked }
-    ensures called { CallerDid clerk.now.lock pass lanes.items result.pass result.called }
+        lent.old passes.0 [] lent.new result.other result.linked }
+    ensures called { CallerDid clerk.now.lock passes.1 lanes.items result.pass result.called }
 {
+    let (other, pass) = passes;
     let linker = Part {
         pass: other,
         lent: lent.take(),
-        lanes: Vec::new(alloc),
+        lanes: Vec::new(rt.alloc()),
         did: None,
     };
     let caller = Part {
@@ -187,7 +179,7 @@ fn run_both<M: Lending + Drop, R: Around + Eprint>(
         lanes,
         did: None,
     };
-    let (linker, caller) = run_two(rt, alloc, who, clerk, linker, caller);
+    let (linker, caller) = run_two(rt, who, clerk, linker, caller);
     *lent = linker.lent;
     Both {
         other: linker.pass,
@@ -220,7 +212,6 @@ fn replies_of(called: Option<Did>) -> Option<Replies>
 /// comes back. `None` for want of memory.
 pub fn make_linked<N: Net, R: Around + Eprint>(
     rt: &R,
-    alloc: Global,
     who: &Who<'_>,
     clerk: &SharedClerk<N::Link>,
     pass: Pass<Node<N::Link>>,
@@ -241,7 +232,7 @@ pub fn make_linked<N: Net, R: Around + Eprint>(
         return None;
     }
     let mut lent = Some(Lent { net });
-    let both = run_both(rt, alloc, who, clerk, &mut lent, other, own, lanes);
+    let both = run_both(rt, who, clerk, &mut lent, (other, own), lanes);
     let Some(Lent { net: back }) = lent else {
         unreachable!();
     };

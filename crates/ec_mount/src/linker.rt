@@ -203,7 +203,6 @@ fn keep_linked<M: Lending, R: Around + Eprint>(
     pass: &mut Pass<Node<M::Link>>,
     net: &mut M,
     beside: &Beside,
-    linking: &mut Linking,
 ) -> Result<(), NoMemory>
     requires { IsPassOf clerk.now.lock pass.old }
     ensures later { M.faults net.old ≤ M.faults net.new }
@@ -213,6 +212,7 @@ fn keep_linked<M: Lending, R: Around + Eprint>(
         (record { faults = M.faults net.old; bad = M.bad net.old; ended = M.ended net.old })
         (record { faults = M.faults net.new; bad = M.bad net.new; ended = M.ended net.new })) }
 {
+    let mut linking = Linking::came_now(rt);
     for _ in rt.forever() {
         let is_down = clerk.wait_down(rt, Duration::from_secs(1));
         if beside.is_over() {
@@ -254,10 +254,9 @@ pub fn link_again<M: Lending, R: Around + Eprint>(
         (record { faults = M.faults net.old; bad = M.bad net.old; ended = M.ended net.old })
         (record { faults = M.faults net.new; bad = M.bad net.new; ended = M.ended net.new })) }
 {
-    let mut linking = Linking::came_now(rt);
     clerk.lasts(rt, pass, true);
     beside.begin();
-    let result = keep_linked(rt, who, clerk, pass, net, beside, &mut linking);
+    let result = keep_linked(rt, who, clerk, pass, net, beside);
     clerk.lasts(rt, pass, false);
     result
 }

@@ -99,26 +99,26 @@ fn left<L: Link, R: Around>(rt: &R, link: L, answers: &Answers) -> L
 // Runs a clerk that has greeted. The last link comes back, but for want of memory.
 fn run_over<N: Net, R: Around + Eprint>(
     rt: &R,
-    alloc: Global,
     who: &Who<'_>,
     net: &mut N,
-    link: N::Link,
-    bell: <N::Link as Link>::Bell,
+    greeted: Greeted<N::Link>,
     clerk: Clerk,
     lanes: Vec<List<Call>>,
 ) -> Option<(N::Link, Answers)>
     ensures later { N.faults net.old ≤ N.faults net.new }
     ensures runs { IfSome result (λ r. RunsOver clerk lanes.items
-        (record { counts = N.Link.faults link + N.Link.closes link; given = N.Link.given link; got = N.Link.got link })
+        (record { counts = N.Link.faults greeted.link + N.Link.closes greeted.link; given = N.Link.given greeted.link; got = N.Link.got greeted.link })
         (record { counts = N.Link.faults r.0 + N.Link.closes r.0; given = N.Link.given r.0; got = N.Link.got r.0 })
         (record { faults = N.faults net.old; bad = N.bad net.old; ended = N.ended net.old })
         (record { faults = N.faults net.new; bad = N.bad net.new; ended = N.ended net.new })
         (given_of r.1)) }
 {
-    let Ok((shared, pass)) = SharedClerk::linked_by(alloc, clerk, link, bell, Some(LINKER)) else {
+    let Greeted { link, bell } = greeted;
+    let Ok((shared, pass)) = SharedClerk::linked_by(rt.alloc(), clerk, link, bell, Some(LINKER))
+    else {
         return None;
     };
-    let Some((mut pass, made)) = make_linked(rt, alloc, who, &shared, pass, net, lanes) else {
+    let Some((mut pass, made)) = make_linked(rt, who, &shared, pass, net, lanes) else {
         return None;
     };
     let (link, answers) = conclude(shared.close(rt, &mut pass), made);
@@ -128,21 +128,21 @@ fn run_over<N: Net, R: Around + Eprint>(
 // Greets the server, runs the clerk, and gives its last link back to the net.
 fn work_over<N: Net, R: Around + Eprint>(
     rt: &R,
-    alloc: Global,
     who: &Who<'_>,
     net: &mut N,
     link: N::Link,
-    clerk: Clerk,
-    outs: Vec<Out>,
+    started: (Clerk, Vec<Out>),
     lanes: Vec<List<Call>>,
 ) -> Answers
     requires { IsEmpty (N.Link.given link) × IsEmpty (N.Link.got link) }
     ensures later { N.faults net.old ≤ N.faults net.new }
-    ensures works { WorksOver clerk outs.items lanes.items
+    ensures works { WorksOver started.0 started.1.items lanes.items
         (record { faults = N.faults net.old; bad = N.bad net.old; ended = N.ended net.old })
         (record { faults = N.faults net.new; bad = N.bad net.new; ended = N.ended net.new })
         (given_of result) }
 {
+    let alloc = rt.alloc();
+    let (clerk, outs) = started;
     let greeted = match greet(rt, who, net, link, &outs) {
         Ok(greeted) => greeted,
         Err(fault) => {
@@ -150,8 +150,7 @@ fn work_over<N: Net, R: Around + Eprint>(
             return none(alloc, fault);
         }
     };
-    let Greeted { link, bell } = greeted;
-    let Some((link, answers)) = run_over(rt, alloc, who, net, link, bell, clerk, lanes) else {
+    let Some((link, answers)) = run_over(rt, who, net, greeted, clerk, lanes) else {
         return none(alloc, NodeFault::NoMemory);
     };
     match net.back(link) {
@@ -178,7 +177,7 @@ pub fn work<N: Net, R: Around + Eprint>(
         (given_of result) }
 {
     let alloc = rt.alloc();
-    let (clerk, outs) = match Clerk::start(alloc, who.clerk, boot) {
+    let started = match Clerk::start(alloc, who.clerk, boot) {
         Ok(made) => made,
         Err(ClerkFault::Spent(counter)) => return none(alloc, NodeFault::Spent(counter)),
         Err(_) => return none(alloc, NodeFault::NoMemory),
@@ -187,14 +186,14 @@ pub fn work<N: Net, R: Around + Eprint>(
         Ok(link) => link,
         Err(NetFault::Failed) => {
             tell_unreached(rt, who, net.reason());
-            drop(clerk);
+            drop(started);
             return none(alloc, NodeFault::Net);
         }
         Err(NetFault::NoMemory) => {
-            drop(clerk);
+            drop(started);
             return none(alloc, NodeFault::NoMemory);
         }
     };
     tell_start(rt, who, boot);
-    work_over(rt, alloc, who, net, link, clerk, outs, lanes)
+    work_over(rt, who, net, link, started, lanes)
 }

@@ -15,6 +15,6 @@ returns-clause-runs g c =
     let before : NetSeen = record { faults = g.N.Net.faults c.args.net.now; bad = g.N.Net.bad c.args.net.now; ended = g.N.Net.ended c.args.net.now } in
     let after : NetSeen = record { faults = g.N.Net.faults c.make_linked.new.net; bad = g.N.Net.bad c.make_linked.new.net; ended = g.N.Net.ended c.make_linked.new.net } in
     let ran = runs_over lock c.in-Ok.pass c.in-Some.pass c.close.new.pass c.args.lanes.items (lists_of made.lanes) made.last called c.in-Ok.ensures.pass.2 c.close.ensures.later c.close.ensures.own called.is_pass.1
-    (λ l. g.N.Link.Link.faults l + g.N.Link.Link.closes l) g.N.Link.Link.given g.N.Link.Link.got (first lock) c.args.clerk c.args.link c.close.result.link c.in-Ok.ensures.clerk c.in-Ok.ensures.link before after (subst (λ o. LinksBy o (front c.close.new.pass)) c.in-Ok.ensures.linker c.close.ensures.links)
+    (λ l. g.N.Link.Link.faults l + g.N.Link.Link.closes l) g.N.Link.Link.given g.N.Link.Link.got (first lock) c.args.clerk c.args.greeted.link c.close.result.link c.in-Ok.ensures.clerk c.in-Ok.ensures.link before after (subst (λ o. LinksBy o (front c.close.new.pass)) c.in-Ok.ensures.linker c.close.ensures.links)
     c.close.result.clerk c.close.result.told.items c.close.result.boot (work.given_of c.conclude-link.result.1) c.in-Some.ensures.linked c.close.ensures.finished c.close.ensures.said c.close.ensures.told c.close.ensures.boot c.conclude-link.ensures.result in
     runs_left g.N.Link.Link.faults g.N.Link.Link.closes g.N.Link.Link.given g.N.Link.Link.got c.args.clerk c.args.lanes.items _ before after c.close.result.link c.conclude-link.result.0 c.left.result (work.given_of c.conclude-link.result.1) c.conclude-link.ensures.link c.left.ensures.counts c.left.ensures.bodies ran
