@@ -76,7 +76,7 @@ fn judge_pieces<R: Threads + Sync>(
         }
         rest = behind;
         if let Err(stop) = judged {
-            return stopped(rt, alloc, rest, most, shown, trial, stop);
+            return stopped(rt, alloc, rest, shown, trial, stop);
         }
     }
     match trial.judge_rest(rt, alloc, shown, most) {
@@ -141,14 +141,13 @@ fn stopped<R: Threads + Sync>(
     rt: &R,
     alloc: Global,
     rest: &[u8],
-    most: u32,
     shown: &mut Vec<Shown>,
     trial: &mut Trial,
     stop: Stop,
 ) -> Result<Checked, ReadFault>
     requires few { length shown.old.items + length rest.now ≤ max_transcript_bytes }
-    requires stops { Stops most trial.old.ahead shown.old.items stop }
-    ensures judged { (bytes : List ℕ) → IsReadTo bytes rest.now shown.old.items → IfOk result (IsJudged most bytes) }
+    requires stops { (most : ℕ) × Stops most trial.old.ahead shown.old.items stop }
+    ensures judged { (bytes : List ℕ) (most : ℕ) → Stops most trial.old.ahead shown.old.items stop → IsReadTo bytes rest.now shown.old.items → IfOk result (IsJudged most bytes) }
     ensures fault { (bytes : List ℕ) → IsReadTo bytes rest.now shown.old.items → IfErr result (HasBadLine bytes) }
 {
     let read = read_parts(rt, alloc, rest, PARTS, 0);

@@ -26,13 +26,19 @@ stopped-requires-clause-stops g c k l =
     let more = behind-ss (λ v. v.items) ss c.take_in.new.lines.items c.read_beside-read.result.0 all read in
     let a = c.read_beside-read.new.trial.ahead in
     let here = subst (λ ts. Stops c.args.most a ts c.in-Err-judged.stop) same (rw c.in-Err-judged.is at c.read_beside-read.ensures.stop) in
-    subst (λ ts. Stops c.args.most a ts c.in-Err-judged.stop) (sym more.1) (stops-more c.args.most a ss more.0 c.in-Err-judged.stop here)
+    (c.args.most, subst (λ ts. Stops c.args.most a ts c.in-Err-judged.stop) (sym more.1) (stops-more c.args.most a ss more.0 c.in-Err-judged.stop here))
 
 pub returns-in-Err-judged-clause-judged : goal.returns-in-Err-judged-clause-judged
 returns-in-Err-judged-clause-judged g c =
+    let ss = c.pieces.shown.items in
+    let same : c.deref.result.now ≡ ss = search rules in
     let all = taken-ok c.take_in.result c.in_default.not-Err c.take_in.ensures.all in
     let read = taken-ok c.take_in.result c.in_default.not-Err c.take_in.ensures.read in
-    c.stopped.ensures.judged c.args.bytes.now
+    let more = behind-ss (λ v. v.items) ss c.take_in.new.lines.items c.read_beside-read.result.0 all read in
+    let a = c.read_beside-read.new.trial.ahead in
+    let here = subst (λ ts. Stops c.args.most a ts c.in-Err-judged.stop) same (rw c.in-Err-judged.is at c.read_beside-read.ensures.stop) in
+    let stops = subst (λ ts. Stops c.args.most a ts c.in-Err-judged.stop) (sym more.1) (stops-more c.args.most a ss more.0 c.in-Err-judged.stop here) in
+    c.stopped.ensures.judged c.args.bytes.now c.args.most stops
     (taken (λ v. v.items) c.args.bytes.now c.pieces.rest.now c.cut.result.0.now c.cut.result.1.now c.pieces.shown.items c.take_in.new.lines.items c.read_beside-read.result.0 c.cut.ensures.lines c.cut.ensures.bytes c.pieces.invariant.0 c.read_beside-read.ensures.read all read)
 
 pub returns-in-Err-judged-clause-fault : goal.returns-in-Err-judged-clause-fault

@@ -26,19 +26,20 @@ conclude-requires-clause-stops g c =
     let all = taken-ok c.take_in.result c.in_default.not-Err c.take_in.ensures.all in
     let read = taken-ok c.take_in.result c.in_default.not-Err c.take_in.ensures.read in
     let more = behind-ss (λ v. v.items) ss c.take_in.new.lines.items c.read_parts-read.result all read in
-    (c.args.most, subst (λ ts. Stops c.args.most c.args.trial.now.ahead ts c.args.stop) (sym (same ∙ more.1)) (stops-more c.args.most c.args.trial.now.ahead ss more.0 c.args.stop c.requires.stops))
+    let most = c.requires.stops.0 in
+    (most, subst (λ ts. Stops most c.args.trial.now.ahead ts c.args.stop) (sym (same ∙ more.1)) (stops-more most c.args.trial.now.ahead ss more.0 c.args.stop c.requires.stops.1))
 
 pub returns-clause-judged : goal.returns-clause-judged
-returns-clause-judged g c = λ bytes h.
+returns-clause-judged g c = λ bytes most stopped h.
     let rest = c.args.rest.now in
     let ss = c.args.shown.now.items in
     let same : c.deref.result.now ≡ c.take_in.new.lines.items = search rules in
     let all = taken-ok c.take_in.result c.in_default.not-Err c.take_in.ensures.all in
     let read = taken-ok c.take_in.result c.in_default.not-Err c.take_in.ensures.read in
     let more = behind-ss (λ v. v.items) ss c.take_in.new.lines.items c.read_parts-read.result all read in
-    let stops = subst (λ ts. Stops c.args.most c.args.trial.now.ahead ts c.args.stop) (sym (same ∙ more.1)) (stops-more c.args.most c.args.trial.now.ahead ss more.0 c.args.stop c.requires.stops) in
+    let stops = subst (λ ts. Stops most c.args.trial.now.ahead ts c.args.stop) (sym (same ∙ more.1)) (stops-more most c.args.trial.now.ahead ss more.0 c.args.stop stopped) in
     let whole = taken (λ v. v.items) bytes rest rest [] ss c.take_in.new.lines.items c.read_parts-read.result (sym (append-nil (lines_of rest))) (sym (append-nil rest)) h c.read_parts-read.ensures.read all read in
     let lines = read-all bytes [] c.take_in.new.lines.items refl whole in
-    if-ok _ (IsJudged c.args.most bytes) c.conclude.result
-    (λ checked v. record { shown = c.take_in.new.lines.items; lines = lines; verdict = subst (λ ts. IsVerdict c.args.most ts checked) same (v c.args.most stops) })
+    if-ok _ (IsJudged most bytes) c.conclude.result
+    (λ checked v. record { shown = c.take_in.new.lines.items; lines = lines; verdict = subst (λ ts. IsVerdict most ts checked) same (v most stops) })
     c.conclude.ensures.verdict
