@@ -56,7 +56,7 @@ fn judge(
     ensures { IfOk result (λ verdict. verdict ≡ resolve.judged cache.now owed.now call.now fresh.now outcome) }
 {
     let idless = lacks_id(fresh, &outcome.update);
-    match missing(alloc, cache, owed, call, fresh, idless, &outcome) {
+    match missing(cache, owed, call, fresh, idless, &outcome) {
         Ok(None) => lacking(alloc, cache, idless, outcome),
         Ok(Some(verdict)) => {
             drop(outcome);
@@ -71,7 +71,6 @@ fn judge(
 
 // The first object that was read without a token, or what is owed on what the call meets.
 fn missing(
-    alloc: Global,
     cache: &Cache,
     owed: &Report,
     call: &Call,
@@ -85,7 +84,7 @@ fn missing(
     if let Some(id) = first_unread(cache, fresh, touched) {
         return Ok(Some(Verdict::Need(id, Hold::Read)));
     }
-    reported(alloc, owed, call, touched)
+    reported(owed, call, touched)
 }
 
 // Whether the update makes an object, and there is no id for it.
@@ -143,12 +142,7 @@ fn is(id: ObjId, fresh: &Option<ObjId>) -> bool
 }
 
 // What is owed on what the call meets.
-fn reported(
-    alloc: Global,
-    owed: &Report,
-    call: &Call,
-    touched: &[ObjId],
-) -> Result<Option<Verdict>, NoMemory>
+fn reported(owed: &Report, call: &Call, touched: &[ObjId]) -> Result<Option<Verdict>, NoMemory>
     ensures { IfOk result (λ lost. lost ≡ resolve.reported (due (resolve.met owed.now call.now touched.now) owed.now) (resolve.met owed.now call.now touched.now)) }
 {
     if is_sync(call) {
@@ -160,7 +154,8 @@ fn reported(
     if ops.is_empty() {
         return Ok(None);
     }
-    Ok(lost(ops, Vec::from_slice(alloc, touched)?))
+    let objs = Vec::from_slice(*ops.allocator(), touched)?;
+    Ok(lost(ops, objs))
 }
 
 fn is_sync(call: &Call) -> bool
