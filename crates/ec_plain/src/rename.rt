@@ -67,29 +67,30 @@ fn rename_in<V: Look>(
     let up = above(alloc, kind_of(volume, obj), &passed, parent_of(target))?;
     let mover = Mover {
         dir,
+        into,
         obj,
         kind: kind_of(volume, obj),
         up,
     };
-    move_into(volume, path, target, mover, into, entries, read)
+    move_into(volume, path, target, mover, entries, read)
 }
 
-// An object that moves from a directory, and the directories above its new one.
+// An object that moves from a directory into one, and the directories above that.
 #[derive(Drop)]
 struct Mover {
     dir: ObjId,
+    into: ObjId,
     obj: ObjId,
     kind: Kind,
     up: List<(ObjId, Name)>,
 }
 
-// The object moves to the second path, whose parent `into` has these entries.
+// The object moves to the second path, whose parent has these entries.
 fn move_into<V: Look>(
     volume: &V,
     path: &[Name],
     target: &[Name],
     mover: Mover,
-    into: ObjId,
     entries: &Entries,
     mut read: Vec<ObjId>,
 ) -> Result<Outcome, NoMemory>
@@ -97,27 +98,20 @@ fn move_into<V: Look>(
     requires second { 1 ≤ length target.now }
     requires few { length target.now ≤ max_path_names }
     ensures { IfOk result (λ outcome. (passed : Listed ℕ) → mover.kind ≡ kind_of (V.images volume.now mover.obj) → mover.up ≡ above mover.kind passed (parent_of target.now)
-        → outcome ≡ move_into (V.images volume.now) path.now target.now mover.dir mover.obj into entries.now passed read.items) }
+        → outcome ≡ move_into (V.images volume.now) path.now target.now mover.dir mover.obj mover.into entries.now passed read.items) }
 {
     match entries.get(last_of(target)) {
         None => {
-            if mover.dir != into && entries.len() >= MAX_ENTRIES {
+            if mover.dir != mover.into && entries.len() >= MAX_ENTRIES {
                 return Ok(refuses(Refusal::DirFull, read));
             }
-            renames(mover, last_of(path), into, last_of(target), None, read)
+            renames(mover, last_of(path), last_of(target), None, read)
         }
         Some(victim) => {
             read.push(victim)?;
             match blocked(mover.kind, volume, victim, target.len() as u8) {
                 Some(refusal) => Ok(refuses(refusal, read)),
-                None => renames(
-                    mover,
-                    last_of(path),
-                    into,
-                    last_of(target),
-                    Some(victim),
-                    read,
-                ),
+                None => renames(mover, last_of(path), last_of(target), Some(victim), read),
             }
         }
     }
@@ -127,14 +121,19 @@ fn move_into<V: Look>(
 fn renames(
     mover: Mover,
     from: &Name,
-    into: ObjId,
     to: &Name,
     victim: Option<ObjId>,
     read: Vec<ObjId>,
 ) -> Result<Outcome, NoMemory>
-    ensures { IfOk result (λ outcome. outcome ≡ renames mover.dir from.now into to.now mover.obj mover.kind victim mover.up read.items) }
+    ensures { IfOk result (λ outcome. outcome ≡ renames mover.dir from.now mover.into to.now mover.obj mover.kind victim mover.up read.items) }
 {
-    let Mover { dir, obj, kind, up } = mover;
+    let Mover {
+        dir,
+        into,
+        obj,
+        kind,
+        up,
+    } = mover;
     let from = from.duplicate()?;
     let to = to.duplicate()?;
     if dir == into {
