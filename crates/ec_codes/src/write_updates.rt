@@ -52,7 +52,14 @@ pub fn put_update(update: &Update, out: &mut Vec<u8>) -> Result<(), NoMemory>
             victim,
         } => {
             put_byte(out, 3)?;
-            put_move(out, *dir, from, to, *obj, *kind, *victim)
+            let moved = Moved {
+                from,
+                to,
+                obj: *obj,
+                kind: *kind,
+                victim: *victim,
+            };
+            put_move(out, *dir, &moved)
         }
         Update::Put {
             obj,
@@ -90,17 +97,14 @@ pub fn put_update(update: &Update, out: &mut Vec<u8>) -> Result<(), NoMemory>
             up,
         } => {
             put_byte(out, 9)?;
-            put_shift(
-                out,
-                *dir,
+            let moved = Moved {
                 from,
-                *into,
                 to,
-                *obj,
-                *kind,
-                *victim,
-                up.as_slice(),
-            )
+                obj: *obj,
+                kind: *kind,
+                victim: *victim,
+            };
+            put_shift(out, *dir, *into, &moved, up.as_slice())
         }
         Update::Owner { obj, owner } => {
             put_byte(out, 10)?;
@@ -126,26 +130,28 @@ fn put_entry(
     put_name(out, name)
 }
 
-#[tactic(auto, unfolding(crate::specs::Updates::move_fields))]
-fn put_move(
-    out: &mut Vec<u8>,
-    dir: ObjId,
-    from: &Name,
-    to: &Name,
+// An object that gets another name, and the one that goes for it, if any.
+#[derive(Clone, Copy, Drop)]
+struct Moved<'a> {
+    from: &'a Name,
+    to: &'a Name,
     obj: ObjId,
     kind: Kind,
     victim: Option<ObjId>,
-) -> Result<(), NoMemory>
-    requires apart { distinct (dir ∷ obj ∷ listed victim) ≡ true }
-    requires names { same_name from.now to.now ≡ false }
-    ensures { Puts move_fields (dir, (obj, (kind, (victim, (from.now, to.now))))) out.old.items result out.new.items }
+}
+
+#[tactic(auto, unfolding(crate::specs::Updates::move_fields))]
+fn put_move(out: &mut Vec<u8>, dir: ObjId, moved: &Moved<'_>) -> Result<(), NoMemory>
+    requires apart { distinct (dir ∷ moved.now.obj ∷ listed moved.now.victim) ≡ true }
+    requires names { same_name moved.now.from.now moved.now.to.now ≡ false }
+    ensures { Puts move_fields (dir, (moved.now.obj, (moved.now.kind, (moved.now.victim, (moved.now.from.now, moved.now.to.now))))) out.old.items result out.new.items }
 {
     put_id(out, dir)?;
-    put_id(out, obj)?;
-    put_kind(out, kind)?;
-    put_victim(out, victim)?;
-    put_name(out, from)?;
-    put_name(out, to)
+    put_id(out, moved.obj)?;
+    put_kind(out, moved.kind)?;
+    put_victim(out, moved.victim)?;
+    put_name(out, moved.from)?;
+    put_name(out, moved.to)
 }
 
 fn put_written(
@@ -244,26 +250,22 @@ fn put_ids(out: &mut Vec<u8>, ids: &[ObjId]) -> Result<(), NoMemory>
 fn put_shift(
     out: &mut Vec<u8>,
     dir: ObjId,
-    from: &Name,
     into: ObjId,
-    to: &Name,
-    obj: ObjId,
-    kind: Kind,
-    victim: Option<ObjId>,
+    moved: &Moved<'_>,
     up: &[(ObjId, Name)],
 ) -> Result<(), NoMemory>
-    requires apart { distinct (dir ∷ into ∷ obj ∷ listed victim) ≡ true }
-    requires way { IsWay kind into (into ∷ obj ∷ listed victim) up.now }
-    ensures { Puts shift_fields (dir, (into, (obj, (kind, (victim, (from.now, (to.now, up.now))))))) out.old.items result out.new.items }
+    requires apart { distinct (dir ∷ into ∷ moved.now.obj ∷ listed moved.now.victim) ≡ true }
+    requires way { IsWay moved.now.kind into (into ∷ moved.now.obj ∷ listed moved.now.victim) up.now }
+    ensures { Puts shift_fields (dir, (into, (moved.now.obj, (moved.now.kind, (moved.now.victim, (moved.now.from.now, (moved.now.to.now, up.now))))))) out.old.items result out.new.items }
 {
     put_id(out, dir)?;
     put_id(out, into)?;
-    put_id(out, obj)?;
-    put_kind(out, kind)?;
-    put_victim(out, victim)?;
-    put_name(out, from)?;
-    put_name(out, to)?;
-    put_way(out, kind, into, up)
+    put_id(out, moved.obj)?;
+    put_kind(out, moved.kind)?;
+    put_victim(out, moved.victim)?;
+    put_name(out, moved.from)?;
+    put_name(out, moved.to)?;
+    put_way(out, moved.kind, into, up)
 }
 
 fn put_way(out: &mut Vec<u8>, kind: Kind, into: ObjId, up: &[(ObjId, Name)]) -> Result<(), NoMemory>

@@ -24,6 +24,6 @@ returns c =
     let w5 = c.in_ok-put_name.ensures in
     let w6 = c.in_ok-put_name-2.ensures in
     MatchResult-weaker c.put_way.result c.put_way.ensures
-    (λ t f. shift_written c.args.dir c.args.into c.args.obj c.args.kind c.args.victim c.args.from.now c.args.to.now c.args.up.now
-    old one two three four five six seven new c.requires.apart w0 w1 w2 w3 w4 w5 w6 (f (c.args.into ∷ c.args.obj ∷ listed c.args.victim) c.requires.way))
+    (λ t f. shift_written c.args.dir c.args.into c.args.moved.now.obj c.args.moved.now.kind c.args.moved.now.victim c.args.moved.now.from.now c.args.moved.now.to.now c.args.up.now
+    old one two three four five six seven new c.requires.apart w0 w1 w2 w3 w4 w5 w6 (f (c.args.into ∷ c.args.moved.now.obj ∷ listed c.args.moved.now.victim) c.requires.way))
     (λ e k. and_on old seven new (seven_on old one two three four five six seven (_, w0.0) (_, w1.0) (_, w2.0) (_, w3.0) (_, w4.0) (_, w5.0) (_, w6.0)) k)
