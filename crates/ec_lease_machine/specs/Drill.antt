@@ -13,7 +13,7 @@ use Rattle.ec_protocol.specs.declared.world.World.{World}
 use Rattle.ec_protocol.specs.declared.world.Event.{Event}
 use Rattle.ec_protocol.specs.declared.world.Event.TheVariants as of_world
 use Rattle.ec_protocol.specs.declared.world.WorldFault.TheVariants as world_fault
-use Rattle.ec_lease_machine.specs.World.{due_but}
+use Rattle.ec_protocol.specs.OfPool.Goings.{due_but}
 use Rattle.ec_lease_machine.specs.Leases.{LeaseMoving, fails, held, in_world, moved, moving, onward, opened_leases, step}
 use Rattle.ec_lease_machine.specs.declared.script.LeaseLine.{LeaseLine}
 use Rattle.ec_lease_machine.specs.declared.script.LeaseLine.TheVariants as lines

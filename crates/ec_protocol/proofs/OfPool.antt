@@ -1,2 +1,3 @@
+pub mod Goings
 pub mod Laws
 pub mod Lists

@@ -55,7 +55,8 @@ use Rattle.ec_log.specs.Log as log
 use Rattle.ec_lawful.specs.Whole.{Whole}
 use Rattle.ec_lawful.proofs.Outs.{came-out}
 use Rattle.ec_lawful.proofs.Pool.{sends-all}
-use Rattle.ec_lease_machine.specs.World.{goes_to, resume, resume_on, session}
+use Rattle.ec_protocol.specs.OfPool.Goings.{goes_to}
+use Rattle.ec_lease_machine.specs.World.{resume, resume_on, session}
 use Rattle.ec_history.specs.OfLaws.OfPrinted.Printed.{AreTimely, IsBare, IsTimely}
 use Rattle.ec_lease_machine.specs.OfTimely.Timely.{IsTold, MayAnswer}
 use Rattle.ec_lease_machine.proofs.OfTimely.Lines.{IsBareOut, bare-timely, none-timely, silent-timely, timely-append, waits-untold}

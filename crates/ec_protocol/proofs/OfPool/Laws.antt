@@ -377,7 +377,7 @@ first_is_found {X = X} p (d ∷ es) e h = go (p d) h (first_is_found p es e)
     go true h rest = let a : d ≡ e = cc in subst (λ (x : ℕ × X). IsTrue (is_some (at x.0 (d ∷ es)))) a (ap is_some (lists.first_found d es))
     go false h rest = lists.later_found e.0 d es (rest h)
 
-passes_as : (w : World) (running : Bool) (o : Option Sent) (l : Link) → is_some w.server ≡ running → link_to o ≡ Some l → machine.is_deliverable w o ≡ passes w.cut running l
+pub passes_as : (w : World) (running : Bool) (o : Option Sent) (l : Link) → is_some w.server ≡ running → link_to o ≡ Some l → machine.is_deliverable w o ≡ passes w.cut running l
 passes_as w running None l r h = absurd cc
 passes_as w running (Some s) l r h =
     let e : link_of s ≡ l = cc in

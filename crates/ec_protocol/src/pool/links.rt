@@ -1,13 +1,16 @@
 // Links between clerks and the server, and the first pending message that its link delivers.
-ghost use Rattle.std.specs.Prelude.{◌≡◌, ◌==◌, not, filter};
-ghost use Rattle.ec_base.specs.Tables.{first};
+ghost use Rattle.std.specs.Prelude.{◌≡◌, ◌==◌, ◌&&◌, not, filter, option_copied};
+ghost use Rattle.ec_base.specs.Tables.{at, first};
 ghost use Rattle.ec_volume.specs.Update.{member};
 ghost use Rattle.ec_protocol.specs.OfPool.Insides.{link_of, passes};
+ghost use Rattle.ec_protocol.specs.OfPool.Goings.{going, is_kept_from};
 ghost use Rattle.ec_wire.specs.RowLaws.{key_of};
 
 use crate::Sent;
-use crate::pool::kinds::is_for_server;
+use crate::pool::kinds::{is_for_server, is_same_kind, kind_of};
 use ec_base::ClerkId;
+use ec_wire::MsgKind;
+use std::collections::BTreeMap;
 
 // Which way a message goes.
 #[derive(Clone, Copy, Drop)]
@@ -57,4 +60,36 @@ fn passes(link: Link, cut: &[ClerkId], server_is_running: bool) -> bool
     ensures { result ≡ passes cut.now server_is_running link }
 {
     !is_among(cut, link.clerk) && (!link.is_for_server || server_is_running)
+}
+
+// The first such number of a message that isn't kept from these clerks.
+pub(crate) fn first_due_but(
+    pending: &[(u64, Link)],
+    kept: &BTreeMap<u64, Sent>,
+    cut: &[ClerkId],
+    server_is_running: bool,
+    held: &[ClerkId],
+) -> Option<u64>
+    ensures { result ≡ key_of (first (λ p. passes cut.now server_is_running p.1 && not (is_kept_from held.now (going (at p.0 kept.now.entries)))) pending.now) }
+{
+    for (number, link) in pending {
+        if passes(*link, cut, server_is_running) && !is_kept_from(kept.get(number), held) {
+            return Some(*number);
+        }
+    }
+    None
+}
+
+// Whether the message is no Ended, and goes to one of these clerks.
+fn is_kept_from(sent: Option<&Sent>, held: &[ClerkId]) -> bool
+    ensures { result ≡ is_kept_from held.now (going (option_copied sent)) }
+{
+    match sent {
+        Some(sent) => {
+            !is_for_server(sent)
+                && !is_same_kind(kind_of(&sent.msg), MsgKind::Ended)
+                && is_among(held, sent.clerk)
+        }
+        None => false,
+    }
 }

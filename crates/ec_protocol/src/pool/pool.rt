@@ -7,14 +7,15 @@ ghost use Rattle.ec_wire.specs.Messages.{is_sound};
 ghost use Rattle.ec_protocol.specs.World as machine;
 ghost use Rattle.ec_protocol.specs.declared.world.World.{World};
 ghost use Rattle.ec_protocol.specs.OfPool.Pools.{with_pool, made_pending, Stands};
+ghost use Rattle.ec_protocol.specs.OfPool.Goings as goings;
 ghost use Rattle.ec_protocol.specs.OfPool.Insides.{link_of};
 ghost use Rattle.ec_wire.specs.RowLaws.{key_of};
 
 use crate::Sent;
 use crate::pool::counts::{Count, count_of, count_one_more};
 use crate::pool::forget::{forget_passed, forget_settled};
-use crate::pool::kinds::{is_same_kind, kind_of};
-use crate::pool::links::{Link, first_due, is_among, link_of, mend};
+use crate::pool::kinds::{is_for_server, is_same_kind, kind_of};
+use crate::pool::links::{Link, first_due, first_due_but, is_among, link_of, mend};
 use ec_base::{ClerkId, LAST_COUNTER, NoMemory, SortedMap};
 use ec_wire::{Msg, MsgKind};
 use std::alloc::Global;
@@ -132,6 +133,29 @@ impl Pool {
         ensures pending { IfSome result (λ n. IsTrue (member n self.now.pending)) }
     {
         first_due(self.pending.items(), &self.cut, server_is_running)
+    }
+
+    /// The least such message that isn't kept from these clerks: it's an Ended, or goes to none of them.
+    pub fn due_but(&self, server_is_running: bool, held: &[ClerkId]) -> Option<u64>
+        ensures { (w : World) → is_some w.server ≡ server_is_running → goings.due_but held.now (with_pool self.now w) ≡ result }
+    {
+        first_due_but(
+            self.pending.items(),
+            &self.kept,
+            &self.cut,
+            server_is_running,
+            held,
+        )
+    }
+
+    /// To which clerk a kept message goes, and its kind. It's none where it goes to the server.
+    pub fn goes_to(&self, number: u64) -> Option<(ClerkId, MsgKind)>
+        ensures { (w : World) → goings.goes_to number (with_pool self.now w) ≡ result }
+    {
+        match self.kept.get(&number) {
+            Some(sent) if !is_for_server(sent) => Some((sent.clerk, kind_of(&sent.msg))),
+            _ => None,
+        }
     }
 
     /// How many messages are pending.
