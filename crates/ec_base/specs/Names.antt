@@ -15,14 +15,11 @@ is_slash byte = eqb byte 47
 abbrev pub is_bad : ℕ → Bool
 is_bad byte = is_slash byte || eqb byte 0
 
-abbrev pub is_dot : ℕ → Bool
-is_dot byte = eqb byte 46
-
 -- `.` or `..`
 abbrev pub is_dots : List ℕ → Bool
 is_dots [] = false
-is_dots (a ∷ []) = is_dot a
-is_dots (a ∷ b ∷ []) = is_dot a && is_dot b
+is_dots (a ∷ []) = eqb a 46
+is_dots (a ∷ b ∷ []) = eqb a 46 && eqb b 46
 is_dots (a ∷ b ∷ c ∷ bytes) = false
 
 abbrev pub fault_in_text : List ℕ → Option ℕ → Option NameFault

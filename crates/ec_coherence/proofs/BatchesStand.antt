@@ -15,10 +15,10 @@ use Rattle.ec_coherence.specs.System.{System}
 use Rattle.ec_coherence.specs.Tokens.{Fits, side, side_in, view}
 use Rattle.ec_coherence.specs.Log.{OfOpen}
 use Rattle.ec_coherence.specs.ChangeLaws.{Calls, IsInIt, with_clerk}
-use Rattle.ec_coherence.proofs.Answered.{again-images, again-logs}
-use Rattle.ec_coherence.proofs.ClerkIn.{was-in}
-use Rattle.ec_coherence.proofs.LogChange.{kept-images, kept-logs, pick-images, pick-logs}
-use Rattle.ec_coherence.proofs.Tables.{same_some}
+use Rattle.ec_coherence.proofs.ForBatches.Answered.{again-images, again-logs}
+use Rattle.ec_coherence.proofs.ForBatches.ClerkIn.{was-in}
+use Rattle.ec_coherence.proofs.ForBatches.LogChange.{kept-images, kept-logs, pick-images, pick-logs}
+use Rattle.ec_coherence.proofs.ForServer.Tables.{same_some}
 use Rattle.ec_coherence.specs.CommitLaws.{AllAgree}
 use Rattle.ec_coherence.specs.StandLaws.{AreSent}
 use Rattle.ec_coherence.proofs.GoesOn.{changes-stand}

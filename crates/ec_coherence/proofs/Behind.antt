@@ -22,10 +22,10 @@ use Rattle.ec_coherence.specs.Log.{HasWrites}
 use Rattle.ec_coherence.specs.Events.{Frees, IsUncut, Untouched, shown_boot}
 use Rattle.ec_coherence.specs.Invariant.{Invariant}
 use Rattle.ec_coherence.specs.Steps.{end_session}
-use Rattle.ec_coherence.proofs.Lists.{each-always, each-part, each-turn, either_way, filter-alike, filter-two}
-use Rattle.ec_coherence.proofs.OneSession.{write-eff}
-use Rattle.ec_coherence.proofs.OpenSlots.{one-owner, open-at, at-open}
-use Rattle.ec_coherence.proofs.Tables.{same_some}
+use Rattle.ec_coherence.proofs.ForServer.Lists.{each-always, each-part, each-turn, either_way, filter-alike, filter-two}
+use Rattle.ec_coherence.proofs.ForBatches.OneSession.{write-eff}
+use Rattle.ec_coherence.proofs.ForBatches.OpenSlots.{one-owner, open-at, at-open}
+use Rattle.ec_coherence.proofs.ForServer.Tables.{same_some}
 use Rattle.std.proofs.lemmas.Bool.{cases_eq}
 use Rattle.ec_coherence.specs.Starts.{StartsAgree}
 use Rattle.ec_coherence.specs.Watches.{WatchesAgree}

@@ -6,9 +6,9 @@ use Rattle.ec_history.specs.Placing.{begun, place, watch}
 use Rattle.ec_history.specs.declared.watch.Watch.{Watch}
 use Rattle.ec_history.specs.declared.shown.Shown.{Shown}
 use Rattle.ec_history.specs.declared.shown.Shown.TheVariants as show
-use Rattle.ec_history.proofs.OfLaws.Cuts.{placeable-step}
-use Rattle.ec_history.proofs.OfLaws.Late.{place-no_call}
-use Rattle.ec_history.proofs.OfLaws.More.{watch-step}
+use Rattle.ec_history.proofs.OfLaws.ForPlacing.Cuts.{placeable-step}
+use Rattle.ec_history.proofs.OfLaws.ForPlacing.Late.{place-no_call}
+use Rattle.ec_history.proofs.OfLaws.ForPlacing.More.{watch-step}
 use Rattle.ec_protocol.specs.declared.clerk.Clerk.{Clerk}
 use Rattle.ec_coherence.specs.System.{System}
 use Rattle.ec_coherence.specs.Sessions as sessions
@@ -17,8 +17,8 @@ use Rattle.ec_coherence.specs.Log as log
 use Rattle.ec_coherence.specs.Log.{LogsAgree}
 use Rattle.ec_coherence.specs.Images.{ImagesAgree}
 use Rattle.ec_coherence.specs.Events.{CutAgrees, EventsAgree}
-use Rattle.ec_coherence.proofs.Lists.{each-turn}
-use Rattle.ec_coherence.proofs.Tables.{by-session}
+use Rattle.ec_coherence.proofs.ForServer.Lists.{each-turn}
+use Rattle.ec_coherence.proofs.ForServer.Tables.{by-session}
 use Rattle.ec_coherence.specs.CommitLaws.{AllAgree}
 use Rattle.ec_coherence.specs.Starts.{StartsAgree}
 use Rattle.ec_coherence.specs.Watches.{WatchAgrees, WatchesAgree}

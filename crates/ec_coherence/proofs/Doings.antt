@@ -16,8 +16,8 @@ use Rattle.ec_coherence.specs.System.{System, Ghost, with_start}
 use Rattle.ec_coherence.specs.Tokens.{TokensAgree, view}
 use Rattle.ec_coherence.specs.ChangeLaws.{IsInIt, LogsAndImages, with_clerk}
 use Rattle.ec_coherence.specs.Steps.{call_of, calls_after, doing_in, less_call, out_lines, sends}
-use Rattle.ec_coherence.proofs.Acting.{sends-more}
-use Rattle.ec_coherence.proofs.ClerkIn.{start-same}
+use Rattle.ec_coherence.proofs.ForClerk.Acting.{sends-more}
+use Rattle.ec_coherence.proofs.ForBatches.ClerkIn.{start-same}
 use Rattle.ec_coherence.specs.CommitLaws.{AllAgree}
 use Rattle.ec_coherence.specs.StandLaws.{AreSent, ClerkStands, SessionGoesOn, sending}
 use Rattle.ec_coherence.proofs.GoesOn.{changes-stand}

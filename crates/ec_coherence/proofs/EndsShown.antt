@@ -8,8 +8,8 @@ use Rattle.ec_history.specs.Placing.{watch, ended, is_running, owner}
 use Rattle.ec_history.specs.declared.watch.Watch.{Watch}
 use Rattle.ec_history.specs.declared.shown.Shown.{Shown}
 use Rattle.ec_history.specs.declared.shown.Shown.TheVariants as show
-use Rattle.ec_history.proofs.OfLaws.More.{watch-step}
-use Rattle.ec_history.proofs.OfLaws.Watching.{other_end, own_end}
+use Rattle.ec_history.proofs.OfLaws.ForPlacing.More.{watch-step}
+use Rattle.ec_history.proofs.OfLaws.ForPlacing.Watching.{other_end, own_end}
 use Rattle.ec_volume.specs.Volume.{Fits}
 use Rattle.ec_history.specs.History.{updates}
 use Rattle.ec_sessions.specs.declared.slot.Slot.{Slot}
@@ -22,8 +22,8 @@ use Rattle.ec_coherence.specs.Tokens.{eff, view}
 use Rattle.ec_coherence.specs.Events.{EventsAgree}
 use Rattle.ec_coherence.specs.Invariant.{Invariant}
 use Rattle.ec_coherence.specs.Steps.{end_session, ended_line, runs}
-use Rattle.ec_coherence.proofs.OpenSlots.{at-open}
-use Rattle.ec_coherence.proofs.Tables.{same_some}
+use Rattle.ec_coherence.proofs.ForBatches.OpenSlots.{at-open}
+use Rattle.ec_coherence.proofs.ForServer.Tables.{same_some}
 use Rattle.ec_coherence.specs.Starts.{StartsAgree}
 use Rattle.ec_coherence.specs.Watches.{WatchAgrees, WatchesAgree, still_in}
 use Rattle.ec_coherence.proofs.Behind as around

@@ -25,16 +25,16 @@ use Rattle.ec_coherence.specs.System.{System, Ghost, Eff, eff_from, is_of}
 use Rattle.ec_coherence.specs.Tokens.{eff, view}
 use Rattle.ec_coherence.specs.BatchLaws.{BatchFacts}
 use Rattle.ec_coherence.specs.Steps.{end_lines, end_session, ended_line, runs, serving_in, Under}
-use Rattle.ec_coherence.proofs.Finish as finishing
-use Rattle.ec_coherence.proofs.FinishAgrees as finished
-use Rattle.ec_coherence.proofs.Lists.{each-fewer}
-use Rattle.ec_coherence.proofs.Tables.{differ, same_some}
+use Rattle.ec_coherence.proofs.ForBatches.Finish as finishing
+use Rattle.ec_coherence.proofs.ForBatches.FinishAgrees as finished
+use Rattle.ec_coherence.proofs.ForServer.Lists.{each-fewer}
+use Rattle.ec_coherence.proofs.ForServer.Tables.{differ, same_some}
 use Rattle.ec_coherence.specs.CommitLaws.{AllAgree, StepStands as Stands}
 use Rattle.ec_coherence.specs.Starts.{IsOfStart}
-use Rattle.ec_coherence.proofs.Given.{before-lines, before-record, ended-unclaimed}
-use Rattle.ec_coherence.proofs.Shown.{lines-agree}
-use Rattle.ec_coherence.proofs.Starting.{AreQuiet, quiet-so-far, quiet-with, starts-behind}
-use Rattle.ec_coherence.proofs.Stopping.{stops-behind}
+use Rattle.ec_coherence.proofs.ForCommits.Given.{before-lines, before-record, ended-unclaimed}
+use Rattle.ec_coherence.proofs.ForCommits.Shown.{lines-agree}
+use Rattle.ec_coherence.proofs.ForCommits.Starting.{AreQuiet, quiet-so-far, quiet-with, starts-behind}
+use Rattle.ec_coherence.proofs.ForCommits.Stopping.{stops-behind}
 use Rattle.ec_coherence.specs.Ends.{show_end}
 use Rattle.ec_coherence.proofs.EndsShown as gone
 use Rattle.ec_coherence.proofs.Its as its

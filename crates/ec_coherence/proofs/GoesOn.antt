@@ -21,8 +21,8 @@ use Rattle.ec_coherence.specs.Tokens.{TokensAgree, view}
 use Rattle.ec_coherence.specs.Events.{CutAgrees, EventsAgree, IsUncut, shown_boot}
 use Rattle.ec_coherence.specs.Stops.{StopsAgree}
 use Rattle.ec_coherence.specs.ChangeLaws.{Calls, IsInIt, LogsAndImages, with_clerk}
-use Rattle.ec_coherence.proofs.Lists.{each-more, each-turn}
-use Rattle.ec_coherence.proofs.Tables.{same_some}
+use Rattle.ec_coherence.proofs.ForServer.Lists.{each-more, each-turn}
+use Rattle.ec_coherence.proofs.ForServer.Tables.{same_some}
 use Rattle.ec_coherence.specs.CommitLaws.{AllAgree}
 use Rattle.ec_coherence.specs.Starts.{Greets, StartsAgree}
 use Rattle.ec_coherence.specs.Watches.{WatchesAgree}

@@ -16,13 +16,13 @@ use Rattle.ec_coherence.specs.Tokens.{TokensAgree, eff, eff_of, tables_in, table
 use Rattle.ec_coherence.specs.Invariant.{Invariant}
 use Rattle.ec_coherence.specs.Stops.{MayStep}
 use Rattle.ec_coherence.specs.Steps.{Under}
-use Rattle.ec_coherence.proofs.Lists.{each-more}
-use Rattle.ec_coherence.proofs.Replies.{tell-all-stands}
-use Rattle.ec_coherence.proofs.Restart.{started-agrees, stopped-agrees}
+use Rattle.ec_coherence.proofs.ForServer.Lists.{each-more}
+use Rattle.ec_coherence.proofs.ForServer.Replies.{tell-all-stands}
+use Rattle.ec_coherence.proofs.ForServer.Restart.{started-agrees, stopped-agrees}
 use Rattle.ec_coherence.specs.CommitLaws.{AllAgree, StepStands}
 use Rattle.ec_coherence.specs.Starts.{Greets}
-use Rattle.ec_coherence.proofs.Starting.{AreQuiet}
-use Rattle.ec_coherence.proofs.Watched.{watches-read}
+use Rattle.ec_coherence.proofs.ForCommits.Starting.{AreQuiet}
+use Rattle.ec_coherence.proofs.ForCommits.Watched.{watches-read}
 use Rattle.ec_coherence.specs.StandLaws.{stopped}
 use Rattle.ec_coherence.proofs.Lines.{stopped-line-stands}
 use Rattle.ec_coherence.proofs.Served as frame

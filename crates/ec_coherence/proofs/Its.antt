@@ -15,10 +15,10 @@ use Rattle.ec_coherence.specs.Tokens.{side_in}
 use Rattle.ec_coherence.specs.Events.{IsUncut, shown_boot}
 use Rattle.ec_coherence.specs.Invariant.{Invariant}
 use Rattle.ec_coherence.specs.Steps.{runs}
-use Rattle.ec_coherence.proofs.Committed.{session-there, start-there}
-use Rattle.ec_coherence.proofs.Lists.{either_way}
-use Rattle.ec_coherence.proofs.OpenSlots.{at-open}
-use Rattle.ec_coherence.proofs.Tables.{same_some}
+use Rattle.ec_coherence.proofs.ForBatches.Committed.{session-there, start-there}
+use Rattle.ec_coherence.proofs.ForServer.Lists.{either_way}
+use Rattle.ec_coherence.proofs.ForBatches.OpenSlots.{at-open}
+use Rattle.ec_coherence.proofs.ForServer.Tables.{same_some}
 use Rattle.ec_coherence.specs.Starts.{StartsAgree}
 use Rattle.ec_coherence.specs.Watches.{WatchesAgree, still_in}
 use Rattle.ec_base.proofs.Numbers.{same-self as same, equal}

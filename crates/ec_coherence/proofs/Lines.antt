@@ -5,9 +5,9 @@ use Rattle.ec_history.specs.Placing.{MayFollow, begun, is_call_of, line_entries,
 use Rattle.ec_history.specs.declared.watch.Watch.{Watch}
 use Rattle.ec_history.specs.declared.shown.Shown.{Shown}
 use Rattle.ec_history.specs.declared.shown.Shown.TheVariants.{Nothing, Started, Stopped}
-use Rattle.ec_history.proofs.OfLaws.Cuts.{placeable-step}
-use Rattle.ec_history.proofs.OfLaws.Late.{place-no_call}
-use Rattle.ec_history.proofs.OfLaws.More.{watch-step}
+use Rattle.ec_history.proofs.OfLaws.ForPlacing.Cuts.{placeable-step}
+use Rattle.ec_history.proofs.OfLaws.ForPlacing.Late.{place-no_call}
+use Rattle.ec_history.proofs.OfLaws.ForPlacing.More.{watch-step}
 use Rattle.ec_protocol.specs.declared.clerk.Clerk.{Clerk}
 use Rattle.ec_coherence.specs.System.{System}
 use Rattle.ec_coherence.specs.Events.{CutAgrees, EventsAgree}
@@ -15,7 +15,7 @@ use Rattle.ec_coherence.specs.BatchLaws.{BatchFacts}
 use Rattle.ec_coherence.specs.CommitLaws.{AllAgree}
 use Rattle.ec_coherence.specs.Starts.{StartsAgree}
 use Rattle.ec_coherence.specs.Watches.{WatchesAgree}
-use Rattle.ec_coherence.proofs.Shown.{lines-agree}
+use Rattle.ec_coherence.proofs.ForCommits.Shown.{lines-agree}
 use Rattle.ec_coherence.specs.StandLaws.{lined}
 
 module _ (g : System) (all : AllAgree g) (l : Shown) (plain : (d : ℕ) → is_call_of d l ≡ false) (none : (past rest : List Shown) → line_entries past l rest ≡ []) (same : (d : ℕ) (w : Watch) → watch_next d w l ≡ w) (may : (past : List Shown) → MayFollow past l) where

@@ -17,10 +17,10 @@ use Rattle.ec_history.specs.declared.entry.Entry.{Entry}
 use Rattle.ec_history.specs.declared.entry.Entry.TheVariants as entry
 use Rattle.ec_history.specs.declared.shown.Shown.{Shown}
 use Rattle.ec_history.specs.declared.shown.Shown.TheVariants as show
-use Rattle.ec_history.proofs.OfLaws.Cuts.{legal-step, placeable-step, throughout-append}
-use Rattle.ec_history.proofs.OfLaws.Late.{place-ended}
-use Rattle.ec_history.proofs.OfLaws.More.{count-next, kept-step, owed-others, watch-step}
-use Rattle.ec_history.proofs.OfLaws.Watching.{other_end, own_end}
+use Rattle.ec_history.proofs.OfLaws.ForPlacing.Cuts.{legal-step, placeable-step, throughout-append}
+use Rattle.ec_history.proofs.OfLaws.ForPlacing.Late.{place-ended}
+use Rattle.ec_history.proofs.OfLaws.ForPlacing.More.{count-next, kept-step, owed-others, watch-step}
+use Rattle.ec_history.proofs.OfLaws.ForPlacing.Watching.{other_end, own_end}
 use Rattle.ec_sessions.specs.declared.slot.Slot.{Slot}
 use Rattle.ec_wire.specs.declared.msg.Msg.{Msg}
 use Rattle.ec_durable.specs.Durable.{slot}
@@ -32,8 +32,8 @@ use Rattle.ec_coherence.specs.Tokens.{eff, eff_hold, view}
 use Rattle.ec_coherence.specs.Events.{EventsAgree, CutAgrees, Frees, IsUncut, Untouched, same_op, shown_boot, shown_op}
 use Rattle.ec_coherence.specs.Invariant.{Invariant}
 use Rattle.ec_coherence.specs.Steps.{end_session, runs}
-use Rattle.ec_coherence.proofs.Lists.{each-more, each-part, each-turn, each-whole}
-use Rattle.ec_coherence.proofs.Tables.{by-session, differ, differs, same_some}
+use Rattle.ec_coherence.proofs.ForServer.Lists.{each-more, each-part, each-turn, each-whole}
+use Rattle.ec_coherence.proofs.ForServer.Tables.{by-session, differ, differs, same_some}
 use Rattle.ec_coherence.specs.Starts.{StartsAgree}
 use Rattle.ec_coherence.specs.Watches.{WatchesAgree}
 use Rattle.ec_coherence.proofs.Behind as around

@@ -9,14 +9,14 @@ use Rattle.ec_volume.specs.declared.update.Update.{Update}
 use Rattle.ec_order.specs.Order as order
 use Rattle.ec_history.specs.History.{Op, Each, kept, numbers, updates, of_start, is_one_of, without}
 use Rattle.ec_history.specs.Legal.{IsLawful, is_closed}
-use Rattle.ec_history.proofs.OfLaws.Parts.{needs-part}
-use Rattle.ec_history.proofs.OfLaws.Removed.{removal-rest}
+use Rattle.ec_history.proofs.OfLaws.ForPlacing.Parts.{needs-part}
+use Rattle.ec_history.proofs.OfLaws.ForPlacing.Removed.{removal-rest}
 use Rattle.ec_coherence.specs.System.{System, base_of, is_of, is_open, undurable}
 use Rattle.ec_coherence.specs.Events.{EventsAgree, shown_boot, shown_op}
 use Rattle.ec_coherence.specs.Log.{LogsAgree}
-use Rattle.ec_coherence.proofs.Lists.{each-always, each-part, each-turn, filter-alike, filter-map}
-use Rattle.ec_coherence.proofs.Tables.{differs}
-use Rattle.ec_coherence.proofs.EndsLawful.{end-lawful}
+use Rattle.ec_coherence.proofs.ForServer.Lists.{each-always, each-part, each-turn, filter-alike, filter-map}
+use Rattle.ec_coherence.proofs.ForServer.Tables.{differs}
+use Rattle.ec_coherence.proofs.ForCommits.EndsLawful.{end-lawful}
 use Rattle.ec_coherence.specs.Starts.{AreAlike}
 use Rattle.ec_base.proofs.Bools.{left as and_first, and-both as and_both, same_tests, or-right as or_next, right as and_next, is-true}
 use Rattle.ec_base.proofs.Numbers.{same-self as same, equal}

@@ -19,17 +19,17 @@ use Rattle.ec_protocol.specs.Server.{Serving, forget, open_new, serving, spend, 
 use Rattle.ec_coherence.specs.System.{System, Ghost}
 use Rattle.ec_coherence.specs.Sessions.{IsReached}
 use Rattle.ec_coherence.specs.Steps.{open_session, serving_in}
-use Rattle.ec_coherence.proofs.Finish as finishing
-use Rattle.ec_coherence.proofs.OpenAgrees as opening
-use Rattle.ec_coherence.proofs.Tables.{same_some}
+use Rattle.ec_coherence.proofs.ForBatches.Finish as finishing
+use Rattle.ec_coherence.proofs.ForBatches.OpenAgrees as opening
+use Rattle.ec_coherence.proofs.ForServer.Tables.{same_some}
 use Rattle.ec_coherence.specs.CommitLaws.{AllAgree, StepStands}
-use Rattle.ec_coherence.proofs.Given.{before-record}
-use Rattle.ec_coherence.proofs.SessionCommits.{open-stands, open-starts, open-watches}
-use Rattle.ec_coherence.proofs.Taking.{begins}
+use Rattle.ec_coherence.proofs.ForCommits.Given.{before-record}
+use Rattle.ec_coherence.proofs.ForCommits.SessionCommits.{open-stands, open-starts, open-watches}
+use Rattle.ec_coherence.proofs.ForCommits.Taking.{begins}
 use Rattle.ec_coherence.specs.Ends.{show_end}
 use Rattle.ec_coherence.proofs.Finishes as finishes
 use Rattle.ec_base.proofs.Numbers.{same-self as same, below}
-use Rattle.ec_coherence.proofs.OpenOver.{twice}
+use Rattle.ec_coherence.proofs.ForBatches.OpenOver.{twice}
 use Rattle.ec_base.proofs.Bools.{is-true}
 
 module _ (g : System) (γ : Ghost) (t : Serving) (st : StepStands g t γ) (none : t.rec ≡ None) (c : ℕ) (sl : Slot) (in_slot : slot t.server.durable c ≡ Some sl) (opened : T sl.is_open)

@@ -13,10 +13,10 @@ use Rattle.ec_coherence.specs.Tokens.{TokensAgree, side, view}
 use Rattle.ec_coherence.specs.Log as log
 use Rattle.ec_coherence.specs.Log.{IdsAgree, made_by}
 use Rattle.ec_coherence.specs.ChangeLaws.{Calls, IsInIt, LogsAndImages, with_clerk}
-use Rattle.ec_coherence.proofs.ClerkIn.{was-in}
-use Rattle.ec_coherence.proofs.HeldChange as held
-use Rattle.ec_coherence.proofs.Sends.{pool-agrees}
-use Rattle.ec_coherence.proofs.Lists.{each-more}
+use Rattle.ec_coherence.proofs.ForBatches.ClerkIn.{was-in}
+use Rattle.ec_coherence.proofs.ForBatches.HeldChange as held
+use Rattle.ec_coherence.proofs.ForClerk.Sends.{pool-agrees}
+use Rattle.ec_coherence.proofs.ForServer.Lists.{each-more}
 use Rattle.ec_coherence.specs.CommitLaws.{AllAgree}
 use Rattle.ec_coherence.specs.StandLaws.{AreSent, SessionGoesOn}
 use Rattle.ec_coherence.proofs.GoesOn.{changes-stand}

@@ -7,7 +7,7 @@ use Rattle.ec_protocol.specs.declared.clerk.Clerk.{Clerk}
 use Rattle.ec_coherence.specs.System.{System, clerk_of, if_in, with_start}
 use Rattle.ec_coherence.specs.Tokens.{Fits, TokensAgree, side, side_in, view}
 use Rattle.ec_coherence.specs.ChangeLaws.{Calls, IsInIt, with_clerk}
-use Rattle.ec_coherence.proofs.Sends.{sent-agrees}
+use Rattle.ec_coherence.proofs.ForClerk.Sends.{sent-agrees}
 use Rattle.ec_protocol.specs.Clerk.{is_session}
 use Rattle.ec_base.proofs.Numbers.{equal}
 

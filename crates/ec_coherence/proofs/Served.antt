@@ -16,7 +16,7 @@ use Rattle.ec_coherence.specs.Log.{LogsAgree}
 use Rattle.ec_coherence.specs.Images.{ImagesAgree}
 use Rattle.ec_coherence.specs.Events.{CutAgrees, EventsAgree, Frees, same_op}
 use Rattle.ec_coherence.specs.Stops.{MayStep, RunsOn}
-use Rattle.ec_coherence.proofs.Lists.{each-turn}
+use Rattle.ec_coherence.proofs.ForServer.Lists.{each-turn}
 use Rattle.ec_coherence.specs.CommitLaws.{AllAgree}
 
 module _ (g : System) (all : AllAgree g) (e : ℕ) (v : Option Server) (o : ℕ → ℕ → Option Eff) where

@@ -26,13 +26,13 @@ use Rattle.ec_coherence.specs.Tokens.{Names, TokensAgree, side, view}
 use Rattle.ec_coherence.specs.Log as log
 use Rattle.ec_coherence.specs.Steps.{doing_in}
 use Rattle.ec_coherence.specs.ChangeLaws.{IsInIt, LogsAndImages, with_clerk}
-use Rattle.ec_coherence.proofs.Acting.{IsIn, view-is}
-use Rattle.ec_coherence.proofs.ClerkIn.{now-in}
-use Rattle.ec_coherence.proofs.Goes.{goes-ask}
-use Rattle.ec_coherence.proofs.LogChange.{pick-images, pick-logs}
-use Rattle.ec_coherence.proofs.OnSystem.{kept}
-use Rattle.ec_coherence.proofs.SendWant.{goes-ask-room, goes-want-again, goes-want-once}
-use Rattle.ec_coherence.proofs.Tables.{same_some}
+use Rattle.ec_coherence.proofs.ForClerk.Acting.{IsIn, view-is}
+use Rattle.ec_coherence.proofs.ForBatches.ClerkIn.{now-in}
+use Rattle.ec_coherence.proofs.ForClerk.Goes.{goes-ask}
+use Rattle.ec_coherence.proofs.ForBatches.LogChange.{pick-images, pick-logs}
+use Rattle.ec_coherence.proofs.ForClerk.OnSystem.{kept}
+use Rattle.ec_coherence.proofs.ForClerk.SendWant.{goes-ask-room, goes-want-again, goes-want-once}
+use Rattle.ec_coherence.proofs.ForServer.Tables.{same_some}
 use Rattle.ec_coherence.specs.CommitLaws.{AllAgree}
 use Rattle.ec_coherence.specs.StandLaws.{AreSent, ClerkStands, SessionGoesOn as GoesOn, sending}
 use Rattle.ec_coherence.proofs.Doings as going

@@ -18,12 +18,12 @@ use Rattle.ec_protocol.specs.declared.server.Server.{Server}
 use Rattle.ec_coherence.specs.System.{System, Ghost}
 use Rattle.ec_coherence.specs.Sessions as sessions
 use Rattle.ec_coherence.specs.Steps.{open_session, serving_in}
-use Rattle.ec_coherence.proofs.Needs.{each-of}
-use Rattle.ec_coherence.proofs.Tables.{same_some}
+use Rattle.ec_coherence.proofs.ForCommits.Needs.{each-of}
+use Rattle.ec_coherence.proofs.ForServer.Tables.{same_some}
 use Rattle.ec_coherence.specs.CommitLaws.{AllAgree, StepStands}
-use Rattle.ec_coherence.proofs.Finish.{finish-is}
+use Rattle.ec_coherence.proofs.ForBatches.Finish.{finish-is}
 use Rattle.ec_coherence.specs.Starts.{Greets}
-use Rattle.ec_coherence.proofs.Taking.{begins}
+use Rattle.ec_coherence.proofs.ForCommits.Taking.{begins}
 use Rattle.ec_coherence.specs.Ends.{show_end}
 use Rattle.ec_coherence.proofs.Finishes.{finish-spends, finish-stands}
 use Rattle.ec_coherence.proofs.Over.{over-spends, over-stands}

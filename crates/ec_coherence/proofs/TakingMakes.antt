@@ -36,26 +36,26 @@ use Rattle.ec_coherence.specs.Log as log
 use Rattle.ec_coherence.specs.Invariant.{Invariant}
 use Rattle.ec_coherence.specs.Stops.{RunsOn}
 use Rattle.ec_coherence.specs.Steps.{give_ids, open_session, serving_in, Under}
-use Rattle.ec_coherence.proofs.Frames.{tell-stands}
-use Rattle.ec_coherence.proofs.Handlers.{back-stands, claim-stands, record-ids-stands, send-ids-stands, want-stands}
-use Rattle.ec_coherence.proofs.Needs.{each-of}
-use Rattle.ec_coherence.proofs.OpenSlots.{at-open}
-use Rattle.ec_coherence.proofs.Replies.{old-boot-stands, opened-again-stands, restarted-stands, tell-ended-stands}
-use Rattle.ec_coherence.proofs.ServeStands.{serve-serves}
-use Rattle.ec_coherence.proofs.Tables.{at-put, fails, same_some}
-use Rattle.ec_coherence.proofs.GiveAgrees.{grant-is}
-use Rattle.ec_coherence.proofs.OpenAgrees.{open-is}
+use Rattle.ec_coherence.proofs.ForServer.Frames.{tell-stands}
+use Rattle.ec_coherence.proofs.ForServer.Handlers.{back-stands, claim-stands, record-ids-stands, send-ids-stands, want-stands}
+use Rattle.ec_coherence.proofs.ForCommits.Needs.{each-of}
+use Rattle.ec_coherence.proofs.ForBatches.OpenSlots.{at-open}
+use Rattle.ec_coherence.proofs.ForServer.Replies.{old-boot-stands, opened-again-stands, restarted-stands, tell-ended-stands}
+use Rattle.ec_coherence.proofs.ForServer.ServeStands.{serve-serves}
+use Rattle.ec_coherence.proofs.ForServer.Tables.{at-put, fails, same_some}
+use Rattle.ec_coherence.proofs.ForBatches.GiveAgrees.{grant-is}
+use Rattle.ec_coherence.proofs.ForBatches.OpenAgrees.{open-is}
 use Rattle.ec_coherence.specs.CommitLaws.{AllAgree, StepStands, show_batch}
 use Rattle.ec_coherence.specs.Starts.{Greets}
 use Rattle.ec_coherence.specs.Watches.{FirstsAgree, WatchesAgree}
-use Rattle.ec_coherence.proofs.Claiming.{claims-clear}
-use Rattle.ec_coherence.proofs.BatchCommits.{flush-is, flush-shows, flush-stands, flush-starts}
-use Rattle.ec_coherence.proofs.Given.{give-firsts, give-stands, give-starts, give-watches, ids-in-range}
-use Rattle.ec_coherence.proofs.SessionCommits.{open-stands, open-starts, open-watches}
-use Rattle.ec_coherence.proofs.Spending.{serve-kept}
-use Rattle.ec_coherence.proofs.Starting.{AreQuiet, quiet-so-far, quiet-with, serve-quiet, starts-begin, starts-on}
-use Rattle.ec_coherence.proofs.Watched.{watches-read}
-use Rattle.ec_coherence.proofs.Taking.{begins}
+use Rattle.ec_coherence.proofs.ForCommits.Claiming.{claims-clear}
+use Rattle.ec_coherence.proofs.ForCommits.BatchCommits.{flush-is, flush-shows, flush-stands, flush-starts}
+use Rattle.ec_coherence.proofs.ForCommits.Given.{give-firsts, give-stands, give-starts, give-watches, ids-in-range}
+use Rattle.ec_coherence.proofs.ForCommits.SessionCommits.{open-stands, open-starts, open-watches}
+use Rattle.ec_coherence.proofs.ForCommits.Spending.{serve-kept}
+use Rattle.ec_coherence.proofs.ForCommits.Starting.{AreQuiet, quiet-so-far, quiet-with, serve-quiet, starts-begin, starts-on}
+use Rattle.ec_coherence.proofs.ForCommits.Watched.{watches-read}
+use Rattle.ec_coherence.proofs.ForCommits.Taking.{begins}
 use Rattle.ec_coherence.specs.Makes.{Makes, IsMade}
 use Rattle.ec_coherence.proofs.Recorded.{serve-record}
 use Rattle.ec_base.proofs.Bools.{left as and_first, holds-true as holds}

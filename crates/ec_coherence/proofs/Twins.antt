@@ -6,11 +6,11 @@ use Rattle.ec_history.specs.History.{Base, History, Op, Throughout, Each, of_sta
 use Rattle.ec_history.specs.Legal.{IsLegal, IsLegalNext}
 use Rattle.ec_history.specs.declared.entry.Entry.{Entry}
 use Rattle.ec_history.specs.declared.entry.Entry.TheVariants as entry
-use Rattle.ec_history.proofs.OfLaws.More.{issued-step}
-use Rattle.ec_history.proofs.OfLaws.Numbers.{count, each-append, issued-front, issued-up_to, kept-each, IsUpTo}
-use Rattle.ec_history.proofs.OfLaws.Cuts.{legal-step}
+use Rattle.ec_history.proofs.OfLaws.ForPlacing.More.{issued-step}
+use Rattle.ec_history.proofs.OfLaws.ForPlacing.Numbers.{count, each-append, issued-front, issued-up_to, kept-each, IsUpTo}
+use Rattle.ec_history.proofs.OfLaws.ForPlacing.Cuts.{legal-step}
 use Rattle.ec_base.proofs.Numbers.{equal}
-use Rattle.ec_history.proofs.OfLaws.BasesAlike.{each-map}
+use Rattle.ec_history.proofs.OfLaws.ForPlacing.BasesAlike.{each-map}
 
 abbrev one_op : ℕ → ℕ → ℕ → ℕ → Option Update → List Op
 one_op d f m p u = elim u as (λ z. List Op) [ None ↦ [] | Some w ↦ record { clerk = d; boot = f; number = m; place = p; update = w } ∷ [] ]

@@ -9,9 +9,9 @@ use Rattle.ec_history.specs.declared.entry.Entry.{Entry}
 use Rattle.ec_history.specs.declared.entry.Entry.TheVariants as entry
 use Rattle.ec_history.specs.declared.shown.Shown.{Shown}
 use Rattle.ec_history.specs.declared.shown.Shown.TheVariants as show
-use Rattle.ec_history.proofs.OfLaws.Cuts.{placeable-step}
-use Rattle.ec_history.proofs.OfLaws.Late.{place-no_call}
-use Rattle.ec_history.proofs.OfLaws.More.{watch-step}
+use Rattle.ec_history.proofs.OfLaws.ForPlacing.Cuts.{placeable-step}
+use Rattle.ec_history.proofs.OfLaws.ForPlacing.Late.{place-no_call}
+use Rattle.ec_history.proofs.OfLaws.ForPlacing.More.{watch-step}
 use Rattle.ec_sessions.specs.declared.slot.Slot.{Slot}
 use Rattle.ec_wire.specs.declared.msg.Msg.{Msg}
 use Rattle.ec_durable.specs.Durable.{slot}
@@ -23,8 +23,8 @@ use Rattle.ec_coherence.specs.Tokens.{eff, view}
 use Rattle.ec_coherence.specs.Events.{EventsAgree, CutAgrees, Frees, IsUncut, Untouched, same_op, shown_boot, shown_op}
 use Rattle.ec_coherence.specs.Invariant.{Invariant}
 use Rattle.ec_coherence.specs.Steps.{end_session, runs}
-use Rattle.ec_coherence.proofs.Lists.{each-turn}
-use Rattle.ec_coherence.proofs.Tables.{by-session, same_some}
+use Rattle.ec_coherence.proofs.ForServer.Lists.{each-turn}
+use Rattle.ec_coherence.proofs.ForServer.Tables.{by-session, same_some}
 use Rattle.std.proofs.lemmas.Bool.{true≢false}
 use Rattle.ec_coherence.specs.Starts.{StartsAgree}
 use Rattle.ec_coherence.specs.Watches.{WatchesAgree}

@@ -9,8 +9,8 @@ use Rattle.ec_history.specs.declared.entry.Answer.TheVariants as answer
 use Rattle.ec_history.specs.declared.shown.Shown.TheVariants as show
 use Rattle.ec_history.specs.OfLaws.Renaming.{IsRenaming}
 use Rattle.ec_history.specs.OfLaws.Renamed.{IsRenamed, issued_update_by, outcome_by, update_by}
-use Rattle.ec_history.proofs.OfLaws.Calls.{plain-by}
-use Rattle.ec_history.proofs.OfLaws.Shapes.{after-by}
+use Rattle.ec_history.proofs.OfLaws.ForRenamed.Calls.{plain-by}
+use Rattle.ec_history.proofs.OfLaws.ForRenamed.Shapes.{after-by}
 use Rattle.ec_machine_laws.specs.Answers.{Asking, Plainly, after_call, answers_to, first_number, none_yet, operation_number, outcome_on}
 use Rattle.ec_complete.specs.Ids.{behind_calls}
 

@@ -23,17 +23,17 @@ use Rattle.ec_complete.proofs.OfAgreedLines.Beginning.{begins}
 use Rattle.ec_complete.specs.WaitingCalls.{kept_volume, touched_by}
 use Rattle.ec_complete.specs.Lines.{IsOnLine, next_object}
 use Rattle.ec_complete.specs.LineCalls.{IsCalled, LeavesVolume}
-use Rattle.ec_complete.proofs.May as may
-use Rattle.ec_complete.proofs.On.{calls-leave-kept}
+use Rattle.ec_complete.proofs.ForLines.May as may
+use Rattle.ec_complete.proofs.ForLines.On.{calls-leave-kept}
 use Rattle.ec_complete.specs.Worlds.{IsCounted, Outset}
 use Rattle.ec_quiet.specs.OfDeliveries.PhasesBehind.{IsBehind, Sees}
-use Rattle.ec_quiet.proofs.OfDeliveries.Begun.{calls-begin}
-use Rattle.ec_quiet.proofs.OfDeliveries.Seen.{shown-seen}
+use Rattle.ec_quiet.proofs.OfDeliveries.ForWriteBehind.Begun.{calls-begin}
+use Rattle.ec_quiet.proofs.OfDeliveries.ForWriteBehind.Seen.{shown-seen}
 use Rattle.ec_complete.specs.Following.{BeginsBehind, IsCountedIn, IsWorked}
-use Rattle.ec_complete.proofs.Following.{same-scene}
-use Rattle.ec_complete.proofs.Seeing.{shows}
-use Rattle.ec_complete.proofs.Works.{calls-worked}
-use Rattle.ec_complete.proofs.Calling.{told}
+use Rattle.ec_complete.proofs.ForFaultless.Following.{same-scene}
+use Rattle.ec_complete.proofs.ForFaultless.Seeing.{shows}
+use Rattle.ec_complete.proofs.ForFaultless.Works.{calls-worked}
+use Rattle.ec_complete.proofs.ForFaultless.Calling.{told}
 
 module _ (outset : Outset) (j : Work) (number : ℕ) (cl : Call) (w : World) (sc : Scene) (g : System) (sl : Slot) (k : Clerk) (calls : ℕ) (is : IsCalled j cl w sc g sl k) (new : IsNewIn w number) (fine : (call j.clerk number cl w).fault ≡ None) (counted : IsCountedIn outset calls (call j.clerk number cl w).world) where
   abbrev now : Scene

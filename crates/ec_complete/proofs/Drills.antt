@@ -13,7 +13,7 @@ use Rattle.ec_protocol.specs.Drill.{Done, BadLine, TooMany, IsSpent, Ending, Fat
 use Rattle.ec_protocol.specs.World.{open_world}
 use Rattle.ec_protocol.specs.declared.server.Server.{Server}
 use Rattle.ec_protocol.specs.declared.world.World.{World}
-use Rattle.ec_coherence.proofs.Ids.{in-back}
+use Rattle.ec_coherence.proofs.ForBatches.Ids.{in-back}
 use Rattle.ec_lawful.specs.Headline.{placed_on}
 use Rattle.ec_lawful.specs.Drills.{lines_in}
 use Rattle.ec_lawful.specs.DrillRuns.{AreFit}
@@ -22,8 +22,8 @@ use Rattle.ec_complete.specs.Complete.{IsFaultlessRead}
 use Rattle.ec_complete.specs.Goes.{LinesGoOn}
 use Rattle.ec_complete.specs.Ready.{IsReady, OpeningsAreReady}
 use Rattle.ec_complete.specs.Worlds.{outset_of}
-use Rattle.ec_complete.proofs.Going.{lines-go-on}
-use Rattle.ec_complete.proofs.Opening.{openings-ready}
+use Rattle.ec_complete.proofs.ForFaultless.Going.{lines-go-on}
+use Rattle.ec_complete.proofs.ForFaultless.Opening.{openings-ready}
 use Rattle.ec_complete.specs.RunsBehind.{DrillsWriteBehind, WritesBehind}
 use Rattle.ec_complete.proofs.RunsBehind.{runs-behind}
 use Rattle.ec_base.proofs.Numbers.{same-self as same}

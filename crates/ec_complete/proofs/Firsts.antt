@@ -15,7 +15,7 @@ use Rattle.ec_protocol.specs.World.{Moving, add_call, boot, call, call_on, clerk
 use Rattle.ec_protocol.specs.declared.clerk.Clerk.{Clerk}
 use Rattle.ec_protocol.specs.declared.world.World.{World}
 use Rattle.ec_protocol.specs.declared.world.WorldFault.TheVariants as fault
-use Rattle.ec_coherence.proofs.Lists.{each-more}
+use Rattle.ec_coherence.proofs.ForServer.Lists.{each-more}
 use Rattle.ec_lawful.specs.Creates.{creates}
 use Rattle.ec_quiet.specs.Quiet.{IsIdle}
 use Rattle.ec_quiet.specs.Scenes.{IsScene, Scene, done_by}

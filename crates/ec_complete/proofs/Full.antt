@@ -14,12 +14,12 @@ use Rattle.ec_durable.specs.WellFormed.{IsInOrder}
 use Rattle.ec_durable.specs.declared.state.Durable.{Durable}
 use Rattle.ec_machine_laws.proofs.Once.{fewer, keys-length}
 use Rattle.ec_protocol.specs.declared.clerk.Clerk.{Clerk}
-use Rattle.ec_coherence.proofs.Tables.{same_some}
+use Rattle.ec_coherence.proofs.ForServer.Tables.{same_some}
 use Rattle.ec_quiet.specs.Phases.{InPhase, Asks}
 use Rattle.ec_quiet.specs.Scenes.{Scene}
 use Rattle.ec_quiet.specs.Works.{Calls, HasTask, Pushes, Task, Work}
-use Rattle.ec_complete.proofs.Pinned.{once-each}
-use Rattle.ec_complete.proofs.Standing.{other}
+use Rattle.ec_complete.proofs.ForLines.Pinned.{once-each}
+use Rattle.ec_complete.proofs.ForLines.Standing.{other}
 use Rattle.ec_complete.specs.Spare.{granted_below, open_grants}
 use Rattle.ec_complete.specs.Rooms.{makes_in}
 use Rattle.ec_complete.specs.ScriptRooms.{AskingsFindRoom, HasStock, sum_below}

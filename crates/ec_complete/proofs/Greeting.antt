@@ -28,12 +28,12 @@ use Rattle.ec_quiet.proofs.Stepping.{carried}
 use Rattle.ec_complete.specs.WaitingCalls.{kept_volume, touched_by}
 use Rattle.ec_complete.specs.Lines.{IsOnLine, next_object}
 use Rattle.ec_complete.specs.LineCalls.{IsCalledFirst, LeavesVolume}
-use Rattle.ec_complete.proofs.Starts.{starts-leave-kept}
+use Rattle.ec_complete.proofs.ForLines.Starts.{starts-leave-kept}
 use Rattle.ec_complete.specs.Worlds.{IsCounted, LineIsKnown, Outset}
-use Rattle.ec_quiet.proofs.OfDeliveries.Begun.{starts-begin}
+use Rattle.ec_quiet.proofs.OfDeliveries.ForWriteBehind.Begun.{starts-begin}
 use Rattle.ec_complete.specs.Following.{BeginsBehind, IsWorked}
-use Rattle.ec_complete.proofs.Following.{same-scene}
-use Rattle.ec_complete.proofs.Works.{calls-worked}
+use Rattle.ec_complete.proofs.ForFaultless.Following.{same-scene}
+use Rattle.ec_complete.proofs.ForFaultless.Works.{calls-worked}
 
 pub some-none : {A : Type 0} (x : WorldFault) → ◌≡◌ {A = Option WorldFault} (Some x) None → A
 some-none {A} x e = absurd (apart e)

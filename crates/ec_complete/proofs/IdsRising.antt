@@ -3,7 +3,7 @@ use Rattle.std.proofs.Common.{◌≡◌, refl, sym, ap, ◌∙◌, subst, arith,
 use Rattle.std.proofs.lemmas.Bool.{eq-eqb, eqb-true}
 use Rattle.ec_history.specs.OfLaws.Renaming.{IsRenaming}
 use Rattle.ec_history.specs.OfLaws.Renamed.{IsRenamed}
-use Rattle.ec_history.proofs.OfLaws.Shapes.{kept-by}
+use Rattle.ec_history.proofs.OfLaws.ForRenamed.Shapes.{kept-by}
 use Rattle.ec_machine_laws.specs.Answers.{answers_to, none_yet}
 use Rattle.ec_complete.specs.Ids.{AreAbove, RisingIdsAnswerAlike, behind_calls}
 use Rattle.ec_complete.proofs.Exchanging.{exchange, injective, mapped, stays}

@@ -28,8 +28,8 @@ use Rattle.ec_machine_laws.specs.PlainLines.{IsPlain, asked_in, ids_from}
 use Rattle.ec_machine_laws.proofs.Answering.{answers}
 use Rattle.ec_complete.specs.Complete.{AreRising}
 use Rattle.ec_complete.specs.SettledRuns.{HasRoom}
-use Rattle.ec_complete.proofs.Ids.{as-many, ids-rise}
-use Rattle.ec_complete.proofs.Plainness.{NoEnd, are-plain}
+use Rattle.ec_complete.proofs.ForLines.Ids.{as-many, ids-rise}
+use Rattle.ec_complete.proofs.ForLines.Plainness.{NoEnd, are-plain}
 use Rattle.ec_complete.specs.Ids.{AreAbove, operations_in}
 use Rattle.ec_complete.proofs.Counted.{tells-all}
 use Rattle.ec_complete.proofs.IdsRising.{rising-answer}

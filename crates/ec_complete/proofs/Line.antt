@@ -24,7 +24,7 @@ use Rattle.ec_complete.specs.Complete.{IsFaultless}
 use Rattle.ec_quiet.specs.OfDeliveries.Scripts.{AreWriteBehind}
 use Rattle.ec_complete.specs.OfAgreedLines.Placed as placed
 use Rattle.ec_complete.specs.Following.{BeginsBehind}
-use Rattle.ec_complete.proofs.Following.{writes}
+use Rattle.ec_complete.proofs.ForFaultless.Following.{writes}
 use Rattle.ec_complete.proofs.FirstShown.{both-behind, first-adds, first-behind}
 use Rattle.ec_base.proofs.Options.{none_some}
 use Rattle.ec_quiet.proofs.Settled.{stops}

@@ -15,7 +15,7 @@ use Rattle.ec_protocol.specs.declared.clerk.Clerk.{Clerk}
 use Rattle.ec_protocol.specs.declared.server.Server.{Server}
 use Rattle.ec_protocol.specs.declared.world.Sent.{Sent}
 use Rattle.ec_protocol.specs.declared.world.World.{World}
-use Rattle.ec_coherence.proofs.Tables.{same_some}
+use Rattle.ec_coherence.proofs.ForServer.Tables.{same_some}
 use Rattle.ec_lawful.specs.Steps.{HoldsIn}
 use Rattle.ec_lawful.proofs.Events.{deliver-holds}
 use Rattle.ec_lawful.specs.Runs.{OfRun}
@@ -30,14 +30,14 @@ use Rattle.ec_quiet.specs.SettlingScenes.{Reaches, here, on}
 use Rattle.ec_complete.proofs.OfAgreedLines.Seen.{scenes-seen}
 use Rattle.ec_machine_laws.proofs.Sent.{deliveries-count}
 use Rattle.ec_complete.proofs.OfAgreedLines.Worlds as clerks
-use Rattle.ec_complete.proofs.Taking.{can-take-next}
-use Rattle.ec_complete.proofs.Delivering.{lines-stay-on}
+use Rattle.ec_complete.proofs.ForLines.Taking.{can-take-next}
+use Rattle.ec_complete.proofs.ForLines.Delivering.{lines-stay-on}
 use Rattle.ec_complete.specs.Spare.{max_calls}
-use Rattle.ec_complete.proofs.Below.{counters-spare}
-use Rattle.ec_complete.proofs.Given.{ids-stay-given}
+use Rattle.ec_complete.proofs.ForLines.Below.{counters-spare}
+use Rattle.ec_complete.proofs.ForLines.Given.{ids-stay-given}
 use Rattle.ec_complete.specs.Begins.{most_sent}
 use Rattle.ec_complete.specs.Worlds.{LineIsKnown, LinesStayKnown, new_outset}
-use Rattle.ec_complete.proofs.Settling.{all-stay}
+use Rattle.ec_complete.proofs.ForFaultless.Settling.{all-stay}
 use Rattle.ec_complete.specs.Rooms.{ComesWell, GrantsRoom, HasRoomIn, IsWellAsked}
 use Rattle.ec_complete.specs.ScriptRooms.{HasStock, IsRoomFor, KeepsRoom, LinesKeepRoom}
 use Rattle.ec_complete.proofs.Full.{askings-find-room}

@@ -10,7 +10,7 @@ use Rattle.ec_volume.specs.declared.update.Update.TheVariants.{Make, Drop, Move,
 use Rattle.ec_plain.specs.Plain.{plain}
 use Rattle.ec_plain.specs.declared.call.Call.{Call}
 use Rattle.ec_plain.specs.declared.call.Outcome.{Outcome}
-use Rattle.ec_history.proofs.OfLaws.Fresh.{plain-makes}
+use Rattle.ec_history.proofs.OfLaws.ForFormed.Fresh.{plain-makes}
 use Rattle.ec_cache.specs.Cache.{images_held}
 use Rattle.ec_cache.specs.OfResolve.Agreement.{IsFor, IsWithoutId, Shows}
 use Rattle.ec_cache.specs.declared.resolve.verdict.Verdict.TheVariants.{Done, NeedIds}

@@ -43,14 +43,14 @@ use Rattle.ec_machine_laws.specs.PlainLines.{asked_in}
 use Rattle.ec_complete.specs.Begins.{most_sent}
 use Rattle.ec_complete.specs.Complete.{IsComplete, IsFaultless, IsFaultlessRead}
 use Rattle.ec_complete.specs.SettledRuns.{EachSettles, HasRoom}
-use Rattle.ec_complete.proofs.Lines as lines
-use Rattle.ec_complete.proofs.Plainness.{NoEnd}
-use Rattle.ec_complete.proofs.Runs.{completes}
+use Rattle.ec_complete.proofs.ForLines.Lines as lines
+use Rattle.ec_complete.proofs.ForLines.Plainness.{NoEnd}
+use Rattle.ec_complete.proofs.ForLines.Runs.{completes}
 use Rattle.ec_complete.specs.Worlds.{LineIsKnown as IsKnown, new_outset}
 use Rattle.ec_complete.specs.Goes.{LineGoesOn, GoesThrough, IsWorkOf, PushGoes}
 use Rattle.ec_complete.specs.Ready.{IsReady}
-use Rattle.ec_complete.proofs.Going.{lines-go-through, pushes-go}
-use Rattle.ec_complete.proofs.Opening.{new-early, new-ready}
+use Rattle.ec_complete.proofs.ForFaultless.Going.{lines-go-through, pushes-go}
+use Rattle.ec_complete.proofs.ForFaultless.Opening.{new-early, new-ready}
 use Rattle.ec_complete.specs.ScriptRooms.{HasStock, IsRoomFor, KeepsRoom, sum_below}
 use Rattle.ec_complete.proofs.Firsts.{calls-keep-room, pushes-keep-room}
 use Rattle.ec_complete.proofs.LinesHaveRoom.{lines-keep-room, same-scene}
@@ -59,7 +59,7 @@ use Rattle.ec_complete.proofs.Stocks.{more-stock}
 use Rattle.ec_complete.specs.PlainScripts.{ArePushed, IsPlainScript, IsPushed, behind_line, makes}
 use Rattle.ec_complete.specs.PlainRuns.{PlainScriptsAreComplete}
 use Rattle.ec_complete.proofs.Folding.{asked-more, behind_lines, callers, callers-more, fold-more, in-back, issuers-call, makes-both, makes-more, makes-sum, makes_by, own-make}
-use Rattle.ec_complete.proofs.Fronts.{ahead, each-rest, front-no-end, joined-both, line-more}
+use Rattle.ec_complete.proofs.ForLines.Fronts.{ahead, each-rest, front-no-end, joined-both, line-more}
 use Rattle.ec_complete.proofs.Issued.{has-issued, v}
 use Rattle.ec_complete.proofs.Named.{names-few}
 use Rattle.ec_complete.proofs.NobodyRuns.{none-run, opens}

@@ -30,12 +30,12 @@ use Rattle.ec_quiet.proofs.Delivering.{comes-out, shown-alike, with-clerks}
 use Rattle.ec_complete.specs.WaitingCalls.{max_about}
 use Rattle.ec_complete.specs.Lines.{IsOnLine}
 use Rattle.ec_complete.specs.Worlds.{IsCounted, Outset}
-use Rattle.ec_quiet.proofs.OfDeliveries.Begun.{pushes-begin}
+use Rattle.ec_quiet.proofs.OfDeliveries.ForWriteBehind.Begun.{pushes-begin}
 use Rattle.ec_complete.specs.Following.{BeginsBehind, IsUncalled}
-use Rattle.ec_complete.proofs.Following.{same-scene}
-use Rattle.ec_complete.proofs.Works.{pushes-worked}
+use Rattle.ec_complete.proofs.ForFaultless.Following.{same-scene}
+use Rattle.ec_complete.proofs.ForFaultless.Works.{pushes-worked}
 use Rattle.ec_complete.proofs.Greeting.{some-none}
-use Rattle.ec_complete.proofs.On.{not-pushed}
+use Rattle.ec_complete.proofs.ForLines.On.{not-pushed}
 
 -- what is pushed without a fault was issued
 issued-here : (c n : ℕ) (k : Clerk) (w : World) → (push c n (Some k) w).fault ≡ None → has_issued n k ≡ true

@@ -28,7 +28,7 @@ use Rattle.ec_durable.specs.declared.record.RecordFault.{RecordFault}
 use Rattle.ec_durable.specs.declared.state.Durable.{Durable}
 use Rattle.ec_protocol.specs.Server.{Serving, act, act_all, all_claimed, back, claim, commit, epoch, finish, flush, forget, grant, grant_ids, greet, has_claimed, hello, ids_are_spent, in_session, is_grant, is_last_number, may_write, next_number, open_new, record_ids, resend_ids, room, send_ids, serve, serve_rounds, serving, slot_of, spend, stay, take, taken, tell, tell_ended, tell_opened, want, with_server}
 use Rattle.ec_protocol.specs.declared.server.Server.{Server}
-use Rattle.ec_coherence.proofs.Lists.{each-more}
+use Rattle.ec_coherence.proofs.ForServer.Lists.{each-more}
 use Rattle.ec_complete.specs.Rooms.{GrantsRoom, IsWellAsked}
 
 -- no message of the step refuses ids

@@ -28,7 +28,7 @@ use Rattle.ec_complete.specs.Pieces.{ArePiecesBehind}
 use Rattle.ec_complete.specs.RunsBehind.{WritesBehind}
 use Rattle.ec_complete.proofs.Begins.{goes-behind}
 use Rattle.ec_complete.proofs.Line.{IsAtWorkOrIdle, IsBehindIn, line-behind, line-ended}
-use Rattle.ec_complete.proofs.Fronts.{each-first, each-rest}
+use Rattle.ec_complete.proofs.ForLines.Fronts.{each-first, each-rest}
 
 -- The disk runs in each step.
 

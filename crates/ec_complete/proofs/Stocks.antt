@@ -12,8 +12,8 @@ use Rattle.ec_protocol.specs.Server as server
 use Rattle.ec_protocol.specs.declared.clerk.Clerk.{Clerk}
 use Rattle.ec_protocol.specs.declared.clerk.Out.{Out}
 use Rattle.ec_protocol.specs.declared.clerk.Out.TheVariants as out
-use Rattle.ec_coherence.proofs.Lists.{each-more}
-use Rattle.ec_coherence.proofs.Tables.{at-put, same_some}
+use Rattle.ec_coherence.proofs.ForServer.Lists.{each-more}
+use Rattle.ec_coherence.proofs.ForServer.Tables.{at-put, same_some}
 use Rattle.ec_quiet.specs.Scenes.{Mail, Scene, delivered, done_by, is_for_server, sends, served, taken_by}
 use Rattle.ec_complete.specs.Rooms.{ComesWell, GrantsRoom, HasRoomIn, IsStocked, IsWellAsked}
 use Rattle.ec_complete.proofs.Steps.{messages-keep}

@@ -19,7 +19,7 @@ use Rattle.ec_history.specs.History.{Base, History, Op, Owed, meets, pairs_of, i
 use Rattle.ec_history.specs.Legal.{is_op_of}
 use Rattle.ec_history.specs.declared.entry.Entry.{Entry}
 use Rattle.ec_history.specs.declared.entry.Entry.TheVariants as entry
-use Rattle.ec_history.proofs.OfLaws.More.{issued-step, owed-step, count-next}
+use Rattle.ec_history.proofs.OfLaws.ForPlacing.More.{issued-step, owed-step, count-next}
 use Rattle.ec_judge.specs.declared.carried.Start.{Start}
 use Rattle.ec_judge.specs.Carried.{IsStart, IsUpward, issue_of, issues_in, is_start, count_of, owed_of, pending_of}
 use Rattle.ec_pending.specs.Pending.{issues_of, is_in}

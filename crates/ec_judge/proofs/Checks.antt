@@ -12,10 +12,10 @@ use Rattle.ec_volume.specs.Update.{distinct, member, is_sound}
 use Rattle.ec_volume.specs.Volume.{after, formatted, Fits, WellFormed}
 use Rattle.ec_pending.specs.OfOverlay.Shown.{shown}
 use Rattle.ec_history.specs.OfLaws.Bases.{AreAtLines, LeaveWellFormed, is_bounded_entry}
-use Rattle.ec_history.proofs.OfLaws.Bases.{base-formatted}
-use Rattle.ec_history.proofs.OfLaws.KeptFormed.{kept-formed, kept-held}
-use Rattle.ec_history.proofs.OfLaws.Laws.{kept-reached, call-sound, call-fits}
-use Rattle.ec_history.proofs.OfLaws.Keeping.{whole, gone}
+use Rattle.ec_history.proofs.OfLaws.ForFormed.Bases.{base-formatted}
+use Rattle.ec_history.proofs.OfLaws.ForFormed.KeptFormed.{kept-formed, kept-held}
+use Rattle.ec_history.proofs.OfLaws.ForFormed.Laws.{kept-reached, call-sound, call-fits}
+use Rattle.ec_history.proofs.OfLaws.ForFormed.Keeping.{whole, gone}
 use Rattle.ec_history.specs.History.{History, Throughout, Each, updates, of_issue, kept, outcome}
 use Rattle.ec_history.specs.Legal.{IsFull, IsLegal, IsLegalNext, from_formatted}
 use Rattle.ec_history.specs.declared.entry.Answer.{Answer}
@@ -23,14 +23,14 @@ use Rattle.ec_history.specs.declared.entry.Answer.TheVariants as answer
 use Rattle.ec_history.specs.declared.entry.Entry.{Entry}
 use Rattle.ec_history.specs.declared.entry.Entry.TheVariants as entry
 use Rattle.ec_history.specs.declared.rule.Rule.{Rule}
-use Rattle.ec_history.proofs.OfLaws.Cuts.{legal-step}
-use Rattle.ec_history.proofs.OfLaws.Numbers.{each-front}
+use Rattle.ec_history.proofs.OfLaws.ForPlacing.Cuts.{legal-step}
+use Rattle.ec_history.proofs.OfLaws.ForPlacing.Numbers.{each-front}
 use Rattle.ec_judge.specs.declared.carried.Judge.{Judge}
 use Rattle.ec_judge.specs.Faults.{IsFirstEntry}
 use Rattle.ec_judge.specs.Carried.{Carries, EntryIsReady, Judges}
 use Rattle.ec_history.proofs.OfLaws.Issues.{kept-sorted}
 use Rattle.ec_base.proofs.Bools.{both, first as left, right, on as holds}
-use Rattle.ec_history.proofs.OfLaws.Places.{places}
+use Rattle.ec_history.proofs.OfLaws.ForPlacing.Places.{places}
 use Rattle.ec_volume.proofs.VolumeLemmas.{all-same}
 
 pub places-append : (h g : History) → places (h ++ g) ≡ places h ++ places g

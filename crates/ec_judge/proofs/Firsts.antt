@@ -1,7 +1,7 @@
 -- A history is legal exactly where no entry is the first at fault.
 use Rattle.std.proofs.Common.{◌≡◌, refl, sym, ap, subst, ◌∙◌, append-nil, ℕ, List, [], ◌∷◌, ◌++◌, Option, Some, None, append_assoc}
 use Rattle.std.specs.Prelude.{length, nat_lt}
-use Rattle.ec_history.proofs.OfLaws.Cuts.{throughout-append, throughout-back}
+use Rattle.ec_history.proofs.OfLaws.ForPlacing.Cuts.{throughout-append, throughout-back}
 use Rattle.ec_plain.specs.declared.call.Call.{Call}
 use Rattle.ec_plain.specs.declared.call.Outcome.{Outcome}
 use Rattle.ec_history.specs.History.{Base, History, Throughout, Each, Covers, kept, outcome, due}

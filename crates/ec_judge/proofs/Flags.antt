@@ -15,8 +15,8 @@ use Rattle.ec_history.specs.Legal.{leaves}
 use Rattle.ec_history.specs.declared.entry.Answer.{Answer}
 use Rattle.ec_history.specs.declared.entry.Entry.{Entry}
 use Rattle.ec_history.specs.declared.entry.Entry.TheVariants as entry
-use Rattle.ec_history.proofs.OfLaws.Cuts.{throughout-append, throughout-front, throughout-back}
-use Rattle.ec_history.proofs.OfLaws.Least.{list-complete, list-least}
+use Rattle.ec_history.proofs.OfLaws.ForPlacing.Cuts.{throughout-append, throughout-front, throughout-back}
+use Rattle.ec_history.proofs.OfLaws.ForPlacing.Least.{list-complete, list-least}
 use Rattle.ec_base.proofs.Bools.{on as holds, is-true}
 
 pub flag-step : (U V W : Type 0) (a x : Bool) → MatchBool a (¬ U) U → MatchBool x (¬ V) V → (U → V → W) → (W → U) → (W → V) → MatchBool (a || x) (¬ W) W

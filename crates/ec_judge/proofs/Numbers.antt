@@ -17,15 +17,15 @@ use Rattle.ec_history.specs.Legal.{IsLegal, IsLegalNext, leaves, is_call_of_othe
 use Rattle.ec_history.specs.declared.entry.Answer.{Answer}
 use Rattle.ec_history.specs.declared.entry.Entry.{Entry}
 use Rattle.ec_history.specs.declared.entry.Entry.TheVariants as entry
-use Rattle.ec_history.proofs.OfLaws.Cuts.{throughout-append}
+use Rattle.ec_history.proofs.OfLaws.ForPlacing.Cuts.{throughout-append}
 use Rattle.ec_history.proofs.OfLaws.Issues.{by-steps}
 use Rattle.ec_history.proofs.OfLaws.Unlost as unlosts
-use Rattle.ec_history.proofs.OfLaws.More.{kept-step, issued-step, is_lost-append, count-step}
-use Rattle.ec_history.proofs.OfLaws.Numbers.{count, IsUpTo, issued-up_to, kept-up_to, kept-each, throughout-issued, covers-up_to, each-append}
+use Rattle.ec_history.proofs.OfLaws.ForPlacing.More.{kept-step, issued-step, is_lost-append, count-step}
+use Rattle.ec_history.proofs.OfLaws.ForPlacing.Numbers.{count, IsUpTo, issued-up_to, kept-up_to, kept-each, throughout-issued, covers-up_to, each-append}
 use Rattle.ec_judge.specs.Carried.{IsUncovered, IsUntouched}
 use Rattle.ec_base.proofs.Numbers.{itself}
 use Rattle.ec_base.proofs.Bools.{both, first as left, right, on as holds, is-true}
-use Rattle.ec_history.proofs.OfLaws.BasesAlike.{each-map}
+use Rattle.ec_history.proofs.OfLaws.ForPlacing.BasesAlike.{each-map}
 use Rattle.ec_base.proofs.Lists.{filter-swap}
 
 -- Lists.

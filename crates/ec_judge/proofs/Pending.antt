@@ -13,14 +13,14 @@ use Rattle.ec_volume.specs.Update.{member}
 use Rattle.ec_volume.specs.declared.update.Update.{Update}
 use Rattle.ec_order.specs.Order.{needs, closure}
 use Rattle.ec_history.specs.History.{Each}
-use Rattle.ec_history.proofs.OfLaws.Numbers.{each-append, each-filter}
+use Rattle.ec_history.proofs.OfLaws.ForPlacing.Numbers.{each-append, each-filter}
 use Rattle.ec_pending.specs.declared.issue.Issue.{Issue}
 use Rattle.ec_judge.specs.Carried.{IsUpward}
 use Rattle.ec_pending.specs.Pending.{numbers_in, is_in, numbered, picked_out, rest}
 use Rattle.ec_base.proofs.Numbers.{itself}
 use Rattle.ec_base.proofs.Bools.{both, first as left, right, or-none, on as holds, and-none, is-true}
-use Rattle.ec_history.proofs.OfLaws.BasesAlike.{each-map}
-use Rattle.ec_history.proofs.OfLaws.IdleIds.{both as each-both}
+use Rattle.ec_history.proofs.OfLaws.ForPlacing.BasesAlike.{each-map}
+use Rattle.ec_history.proofs.OfLaws.ForRenamed.IdleIds.{both as each-both}
 
 -- Numbers.
 

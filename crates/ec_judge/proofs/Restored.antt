@@ -15,8 +15,8 @@ use Rattle.ec_pending.specs.OfOverlay.Shown.{laid_or, shown, has_own}
 use Rattle.ec_pending.specs.declared.overlay.overlay.Overlay.{Overlay}
 use Rattle.ec_order.specs.OfObjtable.Slots.{held}
 use Rattle.ec_history.specs.History.{Op, Each, updates, is_one_of}
-use Rattle.ec_history.proofs.OfLaws.Numbers.{each-append, each-filter}
-use Rattle.ec_history.proofs.OfLaws.Objects.{fits-no, after-no}
+use Rattle.ec_history.proofs.OfLaws.ForPlacing.Numbers.{each-append, each-filter}
+use Rattle.ec_history.proofs.OfLaws.ForPlacing.Objects.{fits-no, after-no}
 use Rattle.ec_judge.specs.declared.carried.Kept.{Kept}
 use Rattle.ec_judge.specs.declared.carried.Firm.{Firm}
 use Rattle.ec_judge.proofs.Loops.{front-more, part-front, part-all}
@@ -25,7 +25,7 @@ use Rattle.ec_judge.proofs.Volumes.{first-none, or-out, none-some, fits-last}
 use Rattle.ec_judge.specs.Carried.{op_of, ops_of, is_among, is_noted, AreLaid, AreNoted, IsFrontKept, IsFrontAt, IsWholeBeside, IsBehind, IsRestored, IsLeft}
 use Rattle.ec_base.proofs.Bools.{first as left, off-of, on as holds, is-true}
 use Rattle.ec_history.proofs.HistoryLemmas.{updates-append}
-use Rattle.ec_history.proofs.OfLaws.BasesAlike.{each-map}
+use Rattle.ec_history.proofs.OfLaws.ForPlacing.BasesAlike.{each-map}
 use Rattle.ec_volume.proofs.Fitting.{image_joined as after-append, turns_joined as fits-append}
 
 -- Operations that aren't on an object.

@@ -24,9 +24,9 @@ use Rattle.ec_history.specs.declared.entry.Entry.{Entry}
 use Rattle.ec_history.specs.declared.entry.Entry.TheVariants as entry
 use Rattle.ec_history.specs.declared.rule.Rule.{Rule}
 use Rattle.ec_history.specs.declared.rule.Rule.TheVariants as rule
-use Rattle.ec_history.proofs.OfLaws.Laws.{call-sound, call-fits}
-use Rattle.ec_history.proofs.OfLaws.More.{kept-step, count-next}
-use Rattle.ec_history.proofs.OfLaws.Numbers.{count, IsUpTo, issued-up_to, kept-up_to, each-append}
+use Rattle.ec_history.proofs.OfLaws.ForFormed.Laws.{call-sound, call-fits}
+use Rattle.ec_history.proofs.OfLaws.ForPlacing.More.{kept-step, count-next}
+use Rattle.ec_history.proofs.OfLaws.ForPlacing.Numbers.{count, IsUpTo, issued-up_to, kept-up_to, each-append}
 use Rattle.ec_judge.specs.declared.carried.Kept.{Kept}
 use Rattle.ec_judge.specs.declared.carried.Issuer.{Issuer}
 use Rattle.ec_judge.specs.declared.carried.Start.{Start}

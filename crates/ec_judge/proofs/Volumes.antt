@@ -5,7 +5,7 @@ use Rattle.std.proofs.lemmas.Bool.Decides.{nat_tests}
 use Rattle.ec_volume.specs.Update.{operands, has_operand, member, fits, first_unfit}
 use Rattle.ec_volume.specs.Volume.{Images, image_after, after, fits_in_turn, Fits}
 use Rattle.ec_volume.specs.declared.update.Update.{Update}
-use Rattle.ec_history.proofs.OfLaws.Objects.{fits-next, fits-operands}
+use Rattle.ec_history.proofs.OfLaws.ForPlacing.Objects.{fits-next, fits-operands}
 use Rattle.ec_base.proofs.Bools.{on as holds, is-true}
 use Rattle.ec_volume.proofs.Fitting.{image_joined as after-append, turns_joined as fits-append}
 

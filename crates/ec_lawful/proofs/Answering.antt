@@ -16,7 +16,7 @@ use Rattle.ec_lawful.specs.OfClerkSteps.Answering.{Suits, answered_clerk}
 use Rattle.ec_lawful.specs.OfClerkSteps.Trying.{IsTrying}
 use Rattle.ec_lawful.proofs.OfClerkSteps.Single as single
 use Rattle.ec_lawful.proofs.OfClerkSteps.Singles.{singles}
-use Rattle.ec_lawful.proofs.FreshAnswering.{answer-fresh-step}
+use Rattle.ec_lawful.proofs.ForAsked.FreshAnswering.{answer-fresh-step}
 use Rattle.ec_lawful.specs.Whole.{ShowsAll}
 use Rattle.ec_lawful.proofs.Telling.{answer-step-tells}
 

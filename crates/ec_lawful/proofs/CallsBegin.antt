@@ -13,46 +13,46 @@ use Rattle.ec_history.specs.Placing.{begun as begun-watch}
 use Rattle.ec_history.specs.declared.watch.Watch.{Watch}
 use Rattle.ec_history.specs.declared.shown.Shown.{Shown}
 use Rattle.ec_history.specs.declared.shown.Shown.TheVariants as show
-use Rattle.ec_history.proofs.OfLaws.More.{watch-step}
+use Rattle.ec_history.proofs.OfLaws.ForPlacing.More.{watch-step}
 use Rattle.ec_protocol.specs.Clerk.{Doing, add_call, begin, doing, evict, settle, spend, try_all}
 use Rattle.ec_protocol.specs.World.{is_answer_to}
 use Rattle.ec_protocol.specs.declared.clerk.Clerk.{Clerk}
 use Rattle.ec_protocol.specs.declared.clerk.Waiting.{Waiting}
 use Rattle.ec_coherence.specs.System.{System, Ghost, with_start}
 use Rattle.ec_coherence.specs.Steps.{call_of, calls_after, doing_in, sends}
-use Rattle.ec_coherence.proofs.Lists.{each-more, each-turn}
-use Rattle.ec_coherence.proofs.Tables.{same_some}
+use Rattle.ec_coherence.proofs.ForServer.Lists.{each-more, each-turn}
+use Rattle.ec_coherence.proofs.ForServer.Tables.{same_some}
 use Rattle.ec_coherence.specs.CommitLaws.{AllAgree}
 use Rattle.ec_coherence.specs.StandLaws.{lined}
 use Rattle.ec_lawful.specs.OfClerkSteps.Calls.{has_number, is_shown}
 use Rattle.ec_lawful.specs.OfClerkSteps.CallLaws.{prepared}
 use Rattle.ec_lawful.specs.OfClerkSteps.Waits.{HasLine, IsAtRest, NoneReady, does_wait}
-use Rattle.ec_lawful.proofs.OfClerkSteps.Begin.{call-put}
-use Rattle.ec_lawful.proofs.OfClerkSteps.Quiets.{quiet-evict}
+use Rattle.ec_lawful.proofs.OfClerkSteps.ForCalls.Begin.{call-put}
+use Rattle.ec_lawful.proofs.OfClerkSteps.ForCalls.Quiets.{quiet-evict}
 use Rattle.ec_lawful.specs.OfClerkSteps.Counts.{CountsAgree}
-use Rattle.ec_lawful.proofs.OfClerkSteps.CutFrames.{lines-keep-counts}
-use Rattle.ec_lawful.proofs.From.{doubts-stay}
+use Rattle.ec_lawful.proofs.OfClerkSteps.ForJoins.CutFrames.{lines-keep-counts}
+use Rattle.ec_lawful.proofs.ForWhole.From.{doubts-stay}
 use Rattle.ec_lawful.specs.OfClerkSteps.Orderly.{IsOrderly}
-use Rattle.ec_lawful.proofs.OfClerkSteps.NamesChanging.{clerks-keep}
-use Rattle.ec_lawful.proofs.OfClerkSteps.FreesStored.{stills-keep}
-use Rattle.ec_lawful.proofs.FreshSteps.{start-fresh}
+use Rattle.ec_lawful.proofs.OfClerkSteps.ForNames.NamesChanging.{clerks-keep}
+use Rattle.ec_lawful.proofs.OfClerkSteps.ForDoings.FreesStored.{stills-keep}
+use Rattle.ec_lawful.proofs.ForWhole.FreshSteps.{start-fresh}
 use Rattle.ec_lawful.specs.FreshIds.{AreQuiet}
 use Rattle.ec_lawful.specs.Fresh.{FreshAgrees}
-use Rattle.ec_lawful.proofs.LinesTell.{line-tells}
+use Rattle.ec_lawful.proofs.ForWhole.LinesTell.{line-tells}
 use Rattle.ec_lawful.specs.OfClerkSteps.Frees.{FullsAgree}
 use Rattle.ec_lawful.specs.OfClerkSteps.Trying.{IsTrying}
 use Rattle.ec_lawful.specs.OfClerkSteps.Zeros.{HasNoZero, ZerosAgree}
 use Rattle.ec_lawful.specs.OfClerkSteps.Fulls.{IsFullAt}
-use Rattle.ec_lawful.proofs.OfClerkSteps.ZerosBehind.{steps-keep}
-use Rattle.ec_lawful.proofs.OfClerkSteps.Sent.{own-full, settle-own}
+use Rattle.ec_lawful.proofs.OfClerkSteps.ForNames.ZerosBehind.{steps-keep}
+use Rattle.ec_lawful.proofs.OfClerkSteps.ForNames.Sent.{own-full, settle-own}
 use Rattle.ec_lawful.specs.BeginLaws.{HasBegun}
-use Rattle.ec_lawful.proofs.Called.{begun-cuts, has-begun}
+use Rattle.ec_lawful.proofs.ForBegins.Called.{begun-cuts, has-begun}
 use Rattle.ec_lawful.specs.Steps.{StepIsDone as IsDone, LineIsNew, in_call}
 use Rattle.ec_lawful.specs.Ties.{called, waiting}
 use Rattle.ec_lawful.specs.Whole.{ShowsAll, Whole}
 use Rattle.ec_lawful.specs.SettleLaws.{Beside, IsLined, TriesAll}
-use Rattle.ec_lawful.proofs.Beginning.{begins}
-use Rattle.ec_lawful.proofs.Carrying.{no-zero}
+use Rattle.ec_lawful.proofs.ForBegins.Beginning.{begins}
+use Rattle.ec_lawful.proofs.ForBegins.Carrying.{no-zero}
 use Rattle.ec_lawful.proofs.Settling.{settles-call}
 use Rattle.ec_lawful.proofs.LinesLeft.{answered-gone, lines-at-end}
 use Rattle.ec_base.proofs.Numbers.{same-self as same, equal}

@@ -7,18 +7,18 @@ use Rattle.ec_protocol.specs.Clerk.{Doing, doing, is_session, resend, take}
 use Rattle.ec_protocol.specs.declared.clerk.Clerk.{Clerk}
 use Rattle.ec_coherence.specs.System.{System, Ghost}
 use Rattle.ec_coherence.specs.Steps.{doing_in, sends}
-use Rattle.ec_coherence.proofs.Lists.{each-more}
-use Rattle.ec_coherence.proofs.Needs.{each-of}
+use Rattle.ec_coherence.proofs.ForServer.Lists.{each-more}
+use Rattle.ec_coherence.proofs.ForCommits.Needs.{each-of}
 use Rattle.ec_lawful.specs.OfClerkSteps.Frees.{IsFull}
 use Rattle.ec_lawful.specs.OfClerkSteps.Fulls.{IsFullAt}
-use Rattle.ec_lawful.proofs.OfClerkSteps.Sent.{own-full, resend-own}
+use Rattle.ec_lawful.proofs.OfClerkSteps.ForNames.Sent.{own-full, resend-own}
 use Rattle.ec_lawful.specs.Steps.{StepIsDone}
 use Rattle.ec_lawful.specs.Whole.{ShowsAll, Whole}
 use Rattle.ec_lawful.proofs.Runs.{ClerksKeep}
 use Rattle.ec_lawful.specs.SettleLaws.{IsLined}
-use Rattle.ec_lawful.proofs.Beginning.{begins}
-use Rattle.ec_lawful.proofs.Resending.{resends-keep}
-use Rattle.ec_lawful.proofs.Carrying.{same-shows}
+use Rattle.ec_lawful.proofs.ForBegins.Beginning.{begins}
+use Rattle.ec_lawful.proofs.ForBegins.Resending.{resends-keep}
+use Rattle.ec_lawful.proofs.ForBegins.Carrying.{same-shows}
 use Rattle.ec_lawful.proofs.Settling as settling
 use Rattle.ec_lawful.proofs.Taken.{messages-done}
 use Rattle.ec_lawful.proofs.Answering.{all-in}

@@ -26,8 +26,8 @@ use Rattle.ec_protocol.specs.declared.world.WorldFault.{WorldFault}
 use Rattle.ec_protocol.specs.declared.world.WorldFault.TheVariants as fault
 use Rattle.ec_coherence.specs.System.{System}
 use Rattle.ec_coherence.specs.Steps.{call_of}
-use Rattle.ec_coherence.proofs.Tables.{same_some}
-use Rattle.ec_lawful.proofs.Pool.{sends-all}
+use Rattle.ec_coherence.proofs.ForServer.Tables.{same_some}
+use Rattle.ec_lawful.proofs.ForWhole.Pool.{sends-all}
 use Rattle.ec_coherence.specs.StandLaws.{lined}
 use Rattle.ec_lawful.specs.Headline.{Lines, Pieces, joined}
 use Rattle.ec_lawful.specs.Calls.{AreOf, EachCall, IsOf, TellsLines}
@@ -36,7 +36,7 @@ use Rattle.ec_lawful.specs.DrillRuns.{AreFit, Closed, Comes, IsCallIn, IsFit, Is
 use Rattle.ec_lawful.specs.Steps.{HoldsIn, IsNewIn, MayHappen, StepsKeep}
 use Rattle.ec_lawful.proofs.CallsShown.{MayBe, deliver-tells, event-tells, line-tells, quiet-tells, restart-tells}
 use Rattle.ec_lawful.proofs.Events.{deliver-holds, event-holds, restart-holds}
-use Rattle.ec_lawful.proofs.Frames.{forgotten-stands, lined-stands}
+use Rattle.ec_lawful.proofs.ForWhole.Frames.{forgotten-stands, lined-stands}
 use Rattle.ec_base.proofs.Options.{none_some}
 use Rattle.ec_base.proofs.Numbers.{longer}
 

@@ -29,17 +29,17 @@ use Rattle.ec_lawful.specs.Steps.{HoldsIn, IsNewIn, MayHappen, StepsKeep}
 use Rattle.ec_lawful.proofs.CallsShown.{MayBe, deliver-tells, event-tells, line-tells, quiet-tells, restart-tells}
 use Rattle.ec_lawful.proofs.Drills.{drills-on, more-call, slice-last}
 use Rattle.ec_lawful.proofs.Events.{deliver-holds, event-holds, restart-holds}
-use Rattle.ec_lawful.proofs.Frames.{forgotten-stands, lined-stands}
+use Rattle.ec_lawful.proofs.ForWhole.Frames.{forgotten-stands, lined-stands}
 use Rattle.ec_lawful.specs.Asked.{AsksAgree, EndsAsked, allows, asked_by, ended_by, with_event}
 use Rattle.ec_lawful.specs.AskedLaws.{StandsAsked, CallsLined, IsFresh, RestsKeep, RunAsks}
 use Rattle.ec_lawful.proofs.Numbers.{IsKnown, Two, behind-lines, known-piece, one-lines, other-lines, own-known, pieces-push, two-lines}
-use Rattle.ec_lawful.proofs.Opened.{opened-agrees, opened-asks}
-use Rattle.ec_lawful.proofs.Agreeing.{asks-keep}
-use Rattle.ec_lawful.proofs.EventsAsk.{deliver-asks, event-asks}
+use Rattle.ec_lawful.proofs.ForAsked.Opened.{opened-agrees, opened-asks}
+use Rattle.ec_lawful.proofs.ForAsked.Agreeing.{asks-keep}
+use Rattle.ec_lawful.proofs.ForAsked.EventsAsk.{deliver-asks, event-asks}
 use Rattle.ec_lawful.proofs.Fronts.{asked-line, fronts-more, fronts-push, joined-push}
-use Rattle.ec_lawful.proofs.Reading.{alike-asks, ended-line}
-use Rattle.ec_lawful.proofs.ServingAsks.{line-alike, restart-asks, weaken}
-use Rattle.ec_lawful.proofs.Shown.{asked-show}
+use Rattle.ec_lawful.proofs.ForAsked.Reading.{alike-asks, ended-line}
+use Rattle.ec_lawful.proofs.ForAsked.ServingAsks.{line-alike, restart-asks, weaken}
+use Rattle.ec_lawful.proofs.ForAsked.Shown.{asked-show}
 use Rattle.ec_base.specs.Bools.{one_if}
 use Rattle.ec_base.proofs.Options.{none_some}
 

@@ -21,24 +21,24 @@ use Rattle.ec_coherence.specs.Steps.{call_of, calls_after, doing_in, sends}
 use Rattle.ec_coherence.specs.ChangeLaws.{Calls}
 use Rattle.ec_lawful.specs.OfClerkSteps.Calls.{CallsAgree}
 use Rattle.ec_lawful.specs.OfClerkSteps.Waits.{HasLine}
-use Rattle.ec_lawful.proofs.OfClerkSteps.Told.{told-calls}
+use Rattle.ec_lawful.proofs.OfClerkSteps.ForCalls.Told.{told-calls}
 use Rattle.ec_lawful.specs.OfClerkSteps.Orderly.{IsOrderly}
-use Rattle.ec_lawful.proofs.OfClerkSteps.Calling.{order-stays}
-use Rattle.ec_lawful.proofs.OfClerkSteps.NamesChanging.{ended-keeps}
+use Rattle.ec_lawful.proofs.OfClerkSteps.ForDoings.Calling.{order-stays}
+use Rattle.ec_lawful.proofs.OfClerkSteps.ForNames.NamesChanging.{ended-keeps}
 use Rattle.ec_lawful.specs.OfClerkSteps.Trying.{IsTrying}
-use Rattle.ec_lawful.proofs.OfClerkSteps.ZerosBehind.{steps-keep}
-use Rattle.ec_lawful.proofs.OfClerkSteps.Parts.{have-no-zero}
-use Rattle.ec_lawful.proofs.OfClerkSteps.FreesStored.{ended-keeps-frees}
+use Rattle.ec_lawful.proofs.OfClerkSteps.ForNames.ZerosBehind.{steps-keep}
+use Rattle.ec_lawful.proofs.OfClerkSteps.ForNames.Parts.{have-no-zero}
+use Rattle.ec_lawful.proofs.OfClerkSteps.ForDoings.FreesStored.{ended-keeps-frees}
 use Rattle.ec_lawful.specs.OfClerkSteps.JoinLaws.{IsGoing, tell_loss}
-use Rattle.ec_lawful.proofs.OfClerkSteps.Wholes as wholes
+use Rattle.ec_lawful.proofs.OfClerkSteps.ForJoins.Wholes as wholes
 use Rattle.ec_coherence.specs.CommitLaws.{AllAgree}
 use Rattle.ec_coherence.specs.StandLaws.{ClerkStands}
-use Rattle.ec_lawful.proofs.FreshSteps.{step-fresh}
+use Rattle.ec_lawful.proofs.ForWhole.FreshSteps.{step-fresh}
 use Rattle.ec_lawful.specs.Whole.{Whole}
 use Rattle.ec_lawful.proofs.Telling.{line-step-tells}
 use Rattle.ec_lawful.specs.SettleLaws.{IsLined}
 use Rattle.ec_lawful.proofs.Same.{first, lined-so, no-zero}
-use Rattle.ec_history.proofs.OfLaws.BasesAlike.{each-map}
+use Rattle.ec_history.proofs.OfLaws.ForPlacing.BasesAlike.{each-map}
 
 module _ (g : System) (whole : Whole g) (c b : ℕ) (k : Clerk) (runs : g.running c ≡ Some b) (at-start : g.clerks c b ≡ Some k) (s : ℕ) (within : k.session ≡ Some s) (low mask : ℕ) (sent : Contains g.pool (c, Ended s low mask)) where
   abbrev w : Window

@@ -6,12 +6,12 @@ use Rattle.ec_history.specs.Legal.{IsLegal}
 use Rattle.ec_history.specs.Placing.{place}
 use Rattle.ec_history.specs.declared.entry.Entry.{Entry}
 use Rattle.ec_history.specs.declared.shown.Shown.{Shown}
-use Rattle.ec_history.proofs.OfLaws.Places.{places-within, places-distinct}
+use Rattle.ec_history.proofs.OfLaws.ForPlacing.Places.{places-within, places-distinct}
 use Rattle.ec_history.specs.OfLaws.Bases.{AreAtLines, IsBase, LeaveWellFormed, is_bounded_entry}
-use Rattle.ec_history.proofs.OfLaws.KeptFormed.{kept-formed, kept-held}
-use Rattle.ec_history.proofs.OfLaws.Laws.{kept-reached, call-sound, call-fits}
-use Rattle.ec_history.proofs.OfLaws.Keeping.{throughout, placed}
-use Rattle.ec_coherence.proofs.Tables.{each-map}
+use Rattle.ec_history.proofs.OfLaws.ForFormed.KeptFormed.{kept-formed, kept-held}
+use Rattle.ec_history.proofs.OfLaws.ForFormed.Laws.{kept-reached, call-sound, call-fits}
+use Rattle.ec_history.proofs.OfLaws.ForFormed.Keeping.{throughout, placed}
+use Rattle.ec_coherence.proofs.ForServer.Tables.{each-map}
 use Rattle.ec_lawful.specs.Coherent.{AreFitting, IsFitting}
 
 -- what holds at the beginning and behind each entry holds before each entry

@@ -30,14 +30,14 @@ use Rattle.ec_protocol.specs.declared.world.WorldFault.TheVariants as fault
 use Rattle.ec_coherence.specs.System.{System, Ghost, at_session}
 use Rattle.ec_coherence.specs.Steps as steps
 use Rattle.ec_coherence.specs.Steps.{Stands, doing_in, out_lines, running_clerk, serving_in}
-use Rattle.ec_coherence.proofs.Tables.{at-put, same_some}
+use Rattle.ec_coherence.proofs.ForServer.Tables.{at-put, same_some}
 use Rattle.ec_coherence.specs.CommitLaws.{AllAgree}
 use Rattle.ec_coherence.specs.StandLaws.{crashed, lined, stopped}
 use Rattle.ec_lawful.specs.Ties.{called, waiting}
 use Rattle.ec_lawful.specs.Steps.{HoldsIn, StepIsDone, LineIsNew, IsNewIn, IsServed, IsStep, MayHappen, StepsKeep, clerk_begun, calling, in_call}
-use Rattle.ec_lawful.proofs.Frames.{called-stands, crashed-stands, nothing-stands, same-stands, settled-stands, stopped-stands}
-use Rattle.ec_lawful.proofs.Serving.{served-stands}
-use Rattle.ec_lawful.proofs.Standing.{done-stands, same-durable}
+use Rattle.ec_lawful.proofs.ForWhole.Frames.{called-stands, crashed-stands, nothing-stands, same-stands, settled-stands, stopped-stands}
+use Rattle.ec_lawful.proofs.ForWhole.Serving.{served-stands}
+use Rattle.ec_lawful.proofs.ForWhole.Standing.{done-stands, same-durable}
 use Rattle.ec_base.proofs.Numbers.{same-self as same, equal}
 use Rattle.ec_base.proofs.Options.{none_some}
 

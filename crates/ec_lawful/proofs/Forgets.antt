@@ -6,21 +6,21 @@ use Rattle.ec_protocol.specs.declared.clerk.Clerk.{Clerk}
 use Rattle.ec_coherence.specs.System.{System, Ghost}
 use Rattle.ec_coherence.specs.Tokens.{view}
 use Rattle.ec_coherence.specs.Steps.{doing_in}
-use Rattle.ec_coherence.proofs.Goes.{goes-rest}
-use Rattle.ec_coherence.proofs.ClerkIn.{start-same}
-use Rattle.ec_coherence.proofs.Tables.{same_some}
+use Rattle.ec_coherence.proofs.ForClerk.Goes.{goes-rest}
+use Rattle.ec_coherence.proofs.ForBatches.ClerkIn.{start-same}
+use Rattle.ec_coherence.proofs.ForServer.Tables.{same_some}
 use Rattle.ec_coherence.specs.StandLaws.{IsUnderWay}
 use Rattle.ec_lawful.specs.OfClerkSteps.CallLaws.{IsQuiet}
 use Rattle.ec_lawful.specs.OfClerkSteps.Waits.{HasLine}
-use Rattle.ec_lawful.proofs.OfClerkSteps.Quiet.{quiet-calls, quiet-lines}
+use Rattle.ec_lawful.proofs.OfClerkSteps.ForCalls.Quiet.{quiet-calls, quiet-lines}
 use Rattle.ec_lawful.specs.OfClerkSteps.DoingLaws.{IsInHand}
-use Rattle.ec_lawful.proofs.OfClerkSteps.CacheLogs as kept
-use Rattle.ec_lawful.proofs.OfClerkSteps.Hand as hand
-use Rattle.ec_lawful.proofs.OfClerkSteps.Moving as moving
-use Rattle.ec_lawful.proofs.OfClerkSteps.Calm.{are-calm}
-use Rattle.ec_lawful.proofs.OfClerkSteps.Going.{calm-keeps}
-use Rattle.ec_lawful.proofs.OfClerkSteps.ZerosBehind.{steps-keep}
-use Rattle.ec_lawful.proofs.OfClerkSteps.FreesStored.{stills-keep}
+use Rattle.ec_lawful.proofs.OfClerkSteps.ForDoings.CacheLogs as kept
+use Rattle.ec_lawful.proofs.OfClerkSteps.ForDoings.Hand as hand
+use Rattle.ec_lawful.proofs.OfClerkSteps.ForDoings.Moving as moving
+use Rattle.ec_lawful.proofs.OfClerkSteps.ForJoins.Calm.{are-calm}
+use Rattle.ec_lawful.proofs.OfClerkSteps.ForJoins.Going.{calm-keeps}
+use Rattle.ec_lawful.proofs.OfClerkSteps.ForNames.ZerosBehind.{steps-keep}
+use Rattle.ec_lawful.proofs.OfClerkSteps.ForDoings.FreesStored.{stills-keep}
 use Rattle.ec_lawful.specs.OfClerkSteps.Trying.{IsTrying}
 use Rattle.ec_lawful.specs.OfClerkSteps.Zeros.{HasNoZero}
 use Rattle.ec_lawful.specs.Rooms.{unasked}

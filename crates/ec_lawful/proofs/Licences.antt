@@ -18,12 +18,12 @@ use Rattle.ec_coherence.specs.System.{System, base_of, clerk_in, is_open, seen_o
 use Rattle.ec_coherence.specs.Steps.{Stands, found}
 use Rattle.ec_coherence.specs.Stops.{MayStep}
 use Rattle.ec_coherence.specs.Tokens.{eff, eff_hold, view}
-use Rattle.ec_coherence.proofs.ClerkIn.{was-in}
-use Rattle.ec_coherence.proofs.SlotLaws.{open-at}
-use Rattle.ec_coherence.proofs.Tables.{clash-below, clash-turn, same_some}
+use Rattle.ec_coherence.proofs.ForBatches.ClerkIn.{was-in}
+use Rattle.ec_coherence.proofs.ForServer.SlotLaws.{open-at}
+use Rattle.ec_coherence.proofs.ForServer.Tables.{clash-below, clash-turn, same_some}
 use Rattle.ec_coherence.specs.CommitLaws.{AllAgree}
-use Rattle.ec_coherence.proofs.Answering.{shown-updates}
-use Rattle.ec_coherence.proofs.Touching.{token-of}
+use Rattle.ec_coherence.proofs.ForCommits.Answering.{shown-updates}
+use Rattle.ec_coherence.proofs.ForCommits.Touching.{token-of}
 use Rattle.ec_lawful.specs.Coherent.{HasLicence, HoldsToken, left_by}
 use Rattle.ec_lawful.proofs.OpenSlots.{open-before}
 use Rattle.ec_base.proofs.Options.{none_some}

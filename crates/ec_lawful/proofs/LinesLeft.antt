@@ -13,11 +13,11 @@ use Rattle.ec_protocol.specs.declared.clerk.Waiting.{Waiting}
 use Rattle.ec_coherence.specs.System.{System, Ghost}
 use Rattle.ec_coherence.specs.ChangeLaws.{Calls}
 use Rattle.ec_coherence.specs.Steps.{call_of, calls_after, doing_in, less_call, out_lines}
-use Rattle.ec_coherence.proofs.ClerkIn.{start-same}
-use Rattle.ec_coherence.proofs.Lists.{each-turn}
+use Rattle.ec_coherence.proofs.ForBatches.ClerkIn.{start-same}
+use Rattle.ec_coherence.proofs.ForServer.Lists.{each-turn}
 use Rattle.ec_lawful.specs.OfClerkSteps.Calls.{Began, is_shown}
 use Rattle.ec_lawful.specs.OfClerkSteps.Waits.{HasLine}
-use Rattle.ec_lawful.proofs.OfClerkSteps.CallsLeft.{call-less}
+use Rattle.ec_lawful.proofs.OfClerkSteps.ForCalls.CallsLeft.{call-less}
 use Rattle.ec_lawful.specs.OfClerkSteps.Trying.{IsTrying}
 use Rattle.ec_base.proofs.Numbers.{same-self as same, equal}
 use Rattle.ec_base.proofs.Options.{none_some}

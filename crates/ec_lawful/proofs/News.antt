@@ -13,8 +13,8 @@ use Rattle.ec_history.specs.History.{Base, Each, History, Op, Throughout, issued
 use Rattle.ec_history.specs.Legal.{is_making}
 use Rattle.ec_history.specs.declared.entry.Entry.{Entry}
 use Rattle.ec_history.specs.declared.entry.Entry.TheVariants as entry
-use Rattle.ec_history.proofs.OfLaws.Numbers.{each-append}
-use Rattle.ec_history.proofs.OfLaws.Fresh.{plain-makes}
+use Rattle.ec_history.proofs.OfLaws.ForPlacing.Numbers.{each-append}
+use Rattle.ec_history.proofs.OfLaws.ForFormed.Fresh.{plain-makes}
 use Rattle.ec_history.specs.OfLaws.Placing.{made_ids}
 use Rattle.ec_history.specs.OfLaws.NewIds.{IsNewId}
 use Rattle.ec_coherence.specs.System.{System, base_of}

@@ -13,10 +13,10 @@ use Rattle.ec_durable.specs.declared.record.Record.{Record}
 use Rattle.ec_durable.specs.declared.record.Record.TheVariants.{Batch, Open, End, Ids, Epoch}
 use Rattle.ec_durable.specs.declared.record.RecordFault.{RecordFault}
 use Rattle.ec_durable.specs.declared.record.RecordFault.TheVariants as fault
-use Rattle.ec_coherence.proofs.Tables.{same_some}
+use Rattle.ec_coherence.proofs.ForServer.Tables.{same_some}
 use Rattle.ec_base.proofs.Bools.{left as and_first, is-true, holds-true as holds}
 use Rattle.ec_base.proofs.Numbers.{equal}
-use Rattle.ec_lawful.proofs.Founds.{not-ok, same-ok}
+use Rattle.ec_lawful.proofs.ForWhole.Founds.{not-ok, same-ok}
 
 -- each open session of the second slot was open in the first one
 abbrev WasOpen : Option Slot → Option Slot → Type 0

@@ -5,7 +5,7 @@ use Rattle.ec_volume.specs.Volume.{Fits, Images, WellFormed}
 use Rattle.ec_history.specs.History.{kept, updates}
 use Rattle.ec_history.specs.Lines.{IsStored}
 use Rattle.ec_history.specs.Placing.{place}
-use Rattle.ec_history.proofs.OfLaws.Placed.{covered-there, fits-there, legal-there, stored-there}
+use Rattle.ec_history.proofs.OfLaws.ForRenamed.Placed.{covered-there, fits-there, legal-there, stored-there}
 use Rattle.ec_coherence.specs.System.{System, base_of}
 use Rattle.ec_lawful.specs.Headline.{FrontsAreLawful, placed_on}
 use Rattle.ec_lawful.specs.Fresh.{FreshAgrees}

@@ -14,33 +14,33 @@ use Rattle.ec_coherence.specs.System.{System, Ghost}
 use Rattle.ec_coherence.specs.Sessions as sessions
 use Rattle.ec_coherence.specs.Steps.{doing_in}
 use Rattle.ec_coherence.specs.Tokens.{Fits, view}
-use Rattle.ec_coherence.proofs.Needs.{each-of}
+use Rattle.ec_coherence.proofs.ForCommits.Needs.{each-of}
 use Rattle.ec_lawful.specs.OfClerkSteps.CallLaws.{is_calm}
-use Rattle.ec_lawful.proofs.OfClerkSteps.Quiets.{quiet-taken}
+use Rattle.ec_lawful.proofs.OfClerkSteps.ForCalls.Quiets.{quiet-taken}
 use Rattle.ec_lawful.specs.OfClerkSteps.DoingLaws.{IsInHand}
-use Rattle.ec_lawful.proofs.OfClerkSteps.Restarting.{takes-restarted}
-use Rattle.ec_lawful.proofs.OfClerkSteps.Taking.{takes-grant, takes-kept, takes-recall}
-use Rattle.ec_lawful.proofs.OfClerkSteps.TakingIds.{takes-ids}
+use Rattle.ec_lawful.proofs.OfClerkSteps.ForDoings.Restarting.{takes-restarted}
+use Rattle.ec_lawful.proofs.OfClerkSteps.ForDoings.Taking.{takes-grant, takes-kept, takes-recall}
+use Rattle.ec_lawful.proofs.OfClerkSteps.ForDoings.TakingIds.{takes-ids}
 use Rattle.ec_lawful.specs.OfClerkSteps.Cuts.{CutsAgree}
 use Rattle.ec_lawful.specs.OfClerkSteps.Frames.{IsCalm}
-use Rattle.ec_lawful.proofs.OfClerkSteps.Calm.{are-calm}
-use Rattle.ec_lawful.proofs.OfClerkSteps.Going.{calm-keeps, kept-keeps}
-use Rattle.ec_lawful.proofs.OfClerkSteps.Wholes as wholes
+use Rattle.ec_lawful.proofs.OfClerkSteps.ForJoins.Calm.{are-calm}
+use Rattle.ec_lawful.proofs.OfClerkSteps.ForJoins.Going.{calm-keeps, kept-keeps}
+use Rattle.ec_lawful.proofs.OfClerkSteps.ForJoins.Wholes as wholes
 use Rattle.ec_lawful.specs.OfClerkSteps.Frees.{FreesAgree}
 use Rattle.ec_lawful.specs.OfClerkSteps.Trying.{IsTrying}
 use Rattle.ec_lawful.specs.OfClerkSteps.Zeros.{HasNoZero}
 use Rattle.ec_lawful.specs.OfClerkSteps.ZeroLaws.{SameParts}
-use Rattle.ec_lawful.proofs.OfClerkSteps.Parts.{have-no-zero, ids-have-none}
+use Rattle.ec_lawful.proofs.OfClerkSteps.ForNames.Parts.{have-no-zero, ids-have-none}
 use Rattle.ec_lawful.specs.OfClerkSteps.Moves.{IsStill}
-use Rattle.ec_lawful.proofs.OfClerkSteps.Stilling.{are-still, restarts-still}
-use Rattle.ec_lawful.proofs.OfClerkSteps.FreesStored.{stills-keep}
-use Rattle.ec_lawful.proofs.OfClerkSteps.StoredIds.{ids-keep-frees}
+use Rattle.ec_lawful.proofs.OfClerkSteps.ForNames.Stilling.{are-still, restarts-still}
+use Rattle.ec_lawful.proofs.OfClerkSteps.ForDoings.FreesStored.{stills-keep}
+use Rattle.ec_lawful.proofs.OfClerkSteps.ForDoings.StoredIds.{ids-keep-frees}
 use Rattle.ec_coherence.specs.CommitLaws.{AllAgree}
 use Rattle.ec_lawful.specs.Fresh.{FreshAgrees}
-use Rattle.ec_lawful.proofs.Ids.{ids-fresh}
+use Rattle.ec_lawful.proofs.ForBegins.Ids.{ids-fresh}
 use Rattle.ec_lawful.specs.Whole.{Whole}
 use Rattle.ec_lawful.specs.SettleLaws.{IsLined}
-use Rattle.ec_lawful.proofs.Carrying.{goes-lined, in-hand, same-shows}
+use Rattle.ec_lawful.proofs.ForBegins.Carrying.{goes-lined, in-hand, same-shows}
 use Rattle.ec_lawful.proofs.Same.{first, no-zero}
 use Rattle.ec_base.proofs.Numbers.{equal}
 

@@ -7,7 +7,7 @@ use Rattle.ec_plain.specs.declared.call.Call.{Call}
 use Rattle.ec_volume.specs.Image.{is_gone}
 use Rattle.ec_volume.specs.Volume.{Fits, Images, WellFormed, images}
 use Rattle.ec_history.specs.History.{kept, updates}
-use Rattle.ec_coherence.proofs.Answering.{shown-updates}
+use Rattle.ec_coherence.proofs.ForCommits.Answering.{shown-updates}
 use Rattle.ec_history.specs.Lines.{IsStored}
 use Rattle.ec_history.specs.Placing.{EachLine, place}
 use Rattle.ec_history.specs.declared.shown.Shown.{Shown}
@@ -18,7 +18,7 @@ use Rattle.ec_protocol.specs.Clerk.{Doing, begin, push, resend, start, take as t
 use Rattle.ec_protocol.specs.Drill.{Fates, Ran, Read, bound, close, run_from}
 use Rattle.ec_protocol.specs.Server.{Serving, end, take}
 use Rattle.ec_protocol.specs.World.{is_answer_to, stepped}
-use Rattle.ec_lawful.proofs.Founds.{steps-so}
+use Rattle.ec_lawful.proofs.ForWhole.Founds.{steps-so}
 use Rattle.ec_protocol.specs.declared.clerk.Clerk.{Clerk}
 use Rattle.ec_protocol.specs.declared.server.Server.{Server}
 use Rattle.ec_protocol.specs.declared.world.World.{World}
@@ -28,7 +28,7 @@ use Rattle.ec_coherence.specs.Steps.{doing_in, serving_in}
 use Rattle.ec_coherence.specs.StandLaws.{crashed, lined, stopped}
 use Rattle.ec_coherence.specs.CommitLaws.{AllAgree}
 use Rattle.ec_lawful.specs.Doubts.{DoubtAgrees, doubted}
-use Rattle.ec_lawful.proofs.Keeps.{doubts-hold, restarts-hold}
+use Rattle.ec_lawful.proofs.ForWhole.Keeps.{doubts-hold, restarts-hold}
 use Rattle.ec_lawful.specs.Headline.{InScript, joined, placed_on}
 use Rattle.ec_lawful.specs.LawfulRuns.{ShowLawfully}
 use Rattle.ec_lawful.proofs.Stored.{show-lawfully}
@@ -39,12 +39,12 @@ use Rattle.ec_lawful.specs.Steps.{HoldsIn, StepIsDone, LineIsNew, IsServed, Step
 use Rattle.ec_lawful.specs.Ties.{called, waiting}
 use Rattle.ec_lawful.specs.AskedLaws.{IsFresh, RestsKeep, RunAsks}
 use Rattle.ec_lawful.proofs.DrillsAsk.{asked-drills}
-use Rattle.ec_lawful.proofs.OfClerkSteps.Steps.{step-most}
+use Rattle.ec_lawful.proofs.OfClerkSteps.ForJoins.Steps.{step-most}
 use Rattle.ec_lawful.specs.Runs.{OfRun, RunShows}
 use Rattle.ec_lawful.specs.Whole.{Whole}
 use Rattle.ec_lawful.proofs.Lined.{calls-lined}
-use Rattle.ec_lawful.proofs.Halts.{crashed-whole, doubted-whole, found-whole, nothing-whole, start-leaves, stopped-line-whole, stopped-whole, unsettled-whole, up-whole}
-use Rattle.ec_lawful.proofs.Server.{ends-whole, most-stays, takes-whole}
+use Rattle.ec_lawful.proofs.ForWhole.Halts.{crashed-whole, doubted-whole, found-whole, nothing-whole, start-leaves, stopped-line-whole, stopped-whole, unsettled-whole, up-whole}
+use Rattle.ec_lawful.proofs.ForWhole.Server.{ends-whole, most-stays, takes-whole}
 
 -- what is kept fits the volume at the beginning
 kept-fits : (g : System) → AllAgree g → Fits g.origin (updates (kept (base_of g) (place g.ghost.shown)))

@@ -16,7 +16,7 @@ use Rattle.ec_protocol.specs.World.{open_world}
 use Rattle.ec_protocol.specs.declared.script.Line.{Line}
 use Rattle.ec_protocol.specs.declared.script.Line.TheVariants as line
 use Rattle.ec_protocol.specs.declared.world.World.{World}
-use Rattle.ec_coherence.proofs.Tables.{same_some}
+use Rattle.ec_coherence.proofs.ForServer.Tables.{same_some}
 use Rattle.ec_coherence.specs.Steps.{call_of}
 use Rattle.ec_lawful.specs.Headline.{Lines}
 use Rattle.ec_lawful.specs.Calls.{IsOf}
@@ -27,7 +27,7 @@ use Rattle.ec_lawful.specs.Reached.{IsInOrder}
 use Rattle.ec_lawful.proofs.Bounded.{IsBounded}
 use Rattle.ec_lawful.proofs.Worlds.{F, in-order-of, kept-by, no-calls, no-lines, opened-holds}
 use Rattle.ec_base.proofs.Options.{none_some}
-use Rattle.ec_coherence.proofs.Evict.{each-front}
+use Rattle.ec_coherence.proofs.ForClerk.Evict.{each-front}
 
 -- Calls of a script that fits are within their bounds.
 

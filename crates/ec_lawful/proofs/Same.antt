@@ -10,35 +10,35 @@ use Rattle.ec_protocol.specs.declared.clerk.Out.TheVariants as out
 use Rattle.ec_coherence.specs.System.{System, Ghost}
 use Rattle.ec_coherence.specs.Clerks.{take_session}
 use Rattle.ec_coherence.specs.Steps.{call_of, doing_in}
-use Rattle.ec_coherence.proofs.ClerkIn.{start-same}
+use Rattle.ec_coherence.proofs.ForBatches.ClerkIn.{start-same}
 use Rattle.ec_coherence.specs.CommitLaws.{AllAgree}
 use Rattle.ec_coherence.specs.StandLaws.{ClerkStands}
 use Rattle.ec_lawful.specs.OfClerkSteps.Calls.{Began, CallsAgree, IsOpenCall, StartCalls}
 use Rattle.ec_lawful.specs.OfClerkSteps.Waits.{HasLine}
 use Rattle.ec_lawful.specs.OfClerkSteps.CallLaws.{IsQuiet}
-use Rattle.ec_lawful.proofs.OfClerkSteps.Quiet.{quiet-calls, quiet-lines}
+use Rattle.ec_lawful.proofs.OfClerkSteps.ForCalls.Quiet.{quiet-calls, quiet-lines}
 use Rattle.ec_lawful.specs.OfClerkSteps.Names.{NamesAgree}
 use Rattle.ec_lawful.specs.OfClerkSteps.Orderly.{IsOrderly}
-use Rattle.ec_lawful.proofs.OfClerkSteps.NameFrames.{names-read}
-use Rattle.ec_lawful.proofs.OfClerkSteps.NamesChanging.{opened-keeps}
+use Rattle.ec_lawful.proofs.OfClerkSteps.ForNames.NameFrames.{names-read}
+use Rattle.ec_lawful.proofs.OfClerkSteps.ForNames.NamesChanging.{opened-keeps}
 use Rattle.ec_lawful.specs.OfClerkSteps.Frees.{FreesAgree}
 use Rattle.ec_lawful.specs.OfClerkSteps.Zeros.{HasNoZero, ZerosAgree}
 use Rattle.ec_lawful.specs.OfClerkSteps.Trying.{IsTrying}
-use Rattle.ec_lawful.proofs.OfClerkSteps.ZerosBehind.{steps-keep}
-use Rattle.ec_lawful.proofs.OfClerkSteps.FreesStored.{opened-keeps-frees, stills-keep}
+use Rattle.ec_lawful.proofs.OfClerkSteps.ForNames.ZerosBehind.{steps-keep}
+use Rattle.ec_lawful.proofs.OfClerkSteps.ForDoings.FreesStored.{opened-keeps-frees, stills-keep}
 use Rattle.ec_lawful.specs.OfClerkSteps.JoinLaws.{IsGoing}
-use Rattle.ec_lawful.proofs.OfClerkSteps.Joined as joins
-use Rattle.ec_lawful.proofs.OfClerkSteps.Wholes as wholes
+use Rattle.ec_lawful.proofs.OfClerkSteps.ForJoins.Joined as joins
+use Rattle.ec_lawful.proofs.OfClerkSteps.ForJoins.Wholes as wholes
 use Rattle.ec_lawful.specs.Fresh.{FreshAgrees}
-use Rattle.ec_lawful.proofs.Ids.{opened-old}
-use Rattle.ec_lawful.proofs.FreshSteps.{start-fresh, twice}
+use Rattle.ec_lawful.proofs.ForBegins.Ids.{opened-old}
+use Rattle.ec_lawful.proofs.ForWhole.FreshSteps.{start-fresh, twice}
 use Rattle.ec_lawful.specs.Whole.{ShowsAll, Whole}
 use Rattle.ec_lawful.proofs.Telling.{quiet-step-tells}
 use Rattle.ec_lawful.specs.SettleLaws.{IsLined}
-use Rattle.ec_lawful.proofs.Beginning.{begins}
-use Rattle.ec_lawful.proofs.Carrying.{same-shows}
+use Rattle.ec_lawful.proofs.ForBegins.Beginning.{begins}
+use Rattle.ec_lawful.proofs.ForBegins.Carrying.{same-shows}
 use Rattle.ec_base.proofs.Numbers.{same-self as same}
-use Rattle.ec_history.proofs.OfLaws.BasesAlike.{each-map}
+use Rattle.ec_history.proofs.OfLaws.ForPlacing.BasesAlike.{each-map}
 
 same-ages : (a b : Age) → a ≡ b → same_age a b ≡ true
 same-ages a b e = ap (λ z. same_age z b) e ∙ ap (λ z. z && (b.round == b.round)) (same b.boot) ∙ same b.round

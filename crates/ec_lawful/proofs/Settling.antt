@@ -9,20 +9,20 @@ use Rattle.ec_coherence.specs.System.{System, Ghost}
 use Rattle.ec_coherence.specs.Steps.{doing_in, sends}
 use Rattle.ec_lawful.specs.OfClerkSteps.CallLaws.{prepared}
 use Rattle.ec_lawful.specs.OfClerkSteps.Waits.{HasLine, NoneReady}
-use Rattle.ec_lawful.proofs.OfClerkSteps.Resting.{settles-rest, tries-rest}
-use Rattle.ec_lawful.proofs.OfClerkSteps.Spent.{spent-stays}
+use Rattle.ec_lawful.proofs.OfClerkSteps.ForCalls.Resting.{settles-rest, tries-rest}
+use Rattle.ec_lawful.proofs.OfClerkSteps.ForDoings.Spent.{spent-stays}
 use Rattle.ec_lawful.specs.OfClerkSteps.Frees.{FullsAgree}
 use Rattle.ec_lawful.specs.OfClerkSteps.Trying.{IsTrying}
-use Rattle.ec_coherence.proofs.Lists.{each-more}
+use Rattle.ec_coherence.proofs.ForServer.Lists.{each-more}
 use Rattle.ec_lawful.specs.OfClerkSteps.Fulls.{AreFullAt, IsFullAt}
-use Rattle.ec_lawful.proofs.OfClerkSteps.Sent.{own-full, push-own, take-own}
+use Rattle.ec_lawful.proofs.OfClerkSteps.ForNames.Sent.{own-full, push-own, take-own}
 use Rattle.ec_lawful.specs.Steps.{StepIsDone}
 use Rattle.ec_lawful.specs.Whole.{ShowsAll, Whole}
 use Rattle.ec_lawful.specs.SettleLaws.{Beside, IsLined, TriesAll}
-use Rattle.ec_lawful.proofs.Beginning.{begins, begins-pushed}
-use Rattle.ec_lawful.proofs.Ending.{steps-end}
-use Rattle.ec_lawful.proofs.Readying.{evicts-lined, nothing, prepares, prepares-call, prepares-shows}
-use Rattle.ec_lawful.proofs.Resending.{beside-whole}
+use Rattle.ec_lawful.proofs.ForBegins.Beginning.{begins, begins-pushed}
+use Rattle.ec_lawful.proofs.ForBegins.Ending.{steps-end}
+use Rattle.ec_lawful.proofs.ForBegins.Readying.{evicts-lined, nothing, prepares, prepares-call, prepares-shows}
+use Rattle.ec_lawful.proofs.ForBegins.Resending.{beside-whole}
 
 module _ (g : System) (c b : ℕ) (tries : TriesAll g c b) (beside : Beside g c) where
   -- behind what comes before the tries

@@ -9,8 +9,8 @@ use Rattle.ec_protocol.specs.Drill.{Fates, Read, bound, close, run_from}
 use Rattle.ec_protocol.specs.World.{open_world}
 use Rattle.ec_protocol.specs.declared.world.World.{World}
 use Rattle.ec_lawful.specs.Olds.{opened_in}
-use Rattle.ec_lawful.proofs.Opens.{world-stands}
-use Rattle.ec_lawful.proofs.OpensWhole.{opened-whole}
+use Rattle.ec_lawful.proofs.ForWhole.Opens.{world-stands}
+use Rattle.ec_lawful.proofs.ForWhole.OpensWhole.{opened-whole}
 use Rattle.ec_lawful.specs.Headline.{IsGreatest}
 use Rattle.ec_lawful.specs.DrillRuns.{AreFit}
 use Rattle.ec_lawful.specs.Runs.{OfRun, RunShows}

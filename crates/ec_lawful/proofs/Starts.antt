@@ -24,35 +24,35 @@ use Rattle.ec_protocol.specs.declared.clerk.Out.TheVariants as out
 use Rattle.ec_coherence.specs.System.{System, Ghost, with_start}
 use Rattle.ec_coherence.specs.ChangeLaws.{Calls}
 use Rattle.ec_coherence.specs.Steps.{call_of, calls_after, doing_in, less_call, out_lines, sends}
-use Rattle.ec_coherence.proofs.Lists.{each-more, each-turn}
-use Rattle.ec_coherence.proofs.Tables.{at-put, same_some}
+use Rattle.ec_coherence.proofs.ForServer.Lists.{each-more, each-turn}
+use Rattle.ec_coherence.proofs.ForServer.Tables.{at-put, same_some}
 use Rattle.ec_coherence.specs.CommitLaws.{AllAgree}
 use Rattle.ec_coherence.specs.StandLaws.{lined}
 use Rattle.ec_lawful.specs.OfClerkSteps.Calls.{is_shown}
 use Rattle.ec_lawful.specs.OfClerkSteps.CallLaws.{prepared}
 use Rattle.ec_lawful.specs.OfClerkSteps.Waits.{HasLine, IsAtRest, does_wait}
-use Rattle.ec_lawful.proofs.OfClerkSteps.Begin.{call-put}
-use Rattle.ec_lawful.proofs.OfClerkSteps.Quiet.{split-start}
+use Rattle.ec_lawful.proofs.OfClerkSteps.ForCalls.Begin.{call-put}
+use Rattle.ec_lawful.proofs.OfClerkSteps.ForCalls.Quiet.{split-start}
 use Rattle.ec_lawful.specs.OfClerkSteps.JoinLaws.{started}
-use Rattle.ec_lawful.proofs.From.{doubts-stay}
+use Rattle.ec_lawful.proofs.ForWhole.From.{doubts-stay}
 use Rattle.ec_lawful.specs.OfClerkSteps.Orderly.{IsOrderly, OrderlyAgree}
 use Rattle.ec_lawful.specs.OfClerkSteps.Names.{AreOnNamed, NamesAgree}
-use Rattle.ec_lawful.proofs.OfClerkSteps.Calling.{order-agrees, order-stays}
-use Rattle.ec_lawful.proofs.OfClerkSteps.NamesChanging.{clerks-keep}
-use Rattle.ec_lawful.proofs.OfClerkSteps.FreesStored.{clerks-keep-frees}
+use Rattle.ec_lawful.proofs.OfClerkSteps.ForDoings.Calling.{order-agrees, order-stays}
+use Rattle.ec_lawful.proofs.OfClerkSteps.ForNames.NamesChanging.{clerks-keep}
+use Rattle.ec_lawful.proofs.OfClerkSteps.ForDoings.FreesStored.{clerks-keep-frees}
 use Rattle.ec_lawful.specs.Fresh.{FreshAgrees}
 use Rattle.ec_lawful.specs.FreshLaws.{HasOld}
-use Rattle.ec_lawful.proofs.FreshAnswered.{answers-fresh}
-use Rattle.ec_lawful.proofs.FreshSteps.{hidden-was, start-fresh, taken-was}
-use Rattle.ec_lawful.proofs.LinesTell.{line-tells}
+use Rattle.ec_lawful.proofs.ForAsked.FreshAnswered.{answers-fresh}
+use Rattle.ec_lawful.proofs.ForWhole.FreshSteps.{hidden-was, start-fresh, taken-was}
+use Rattle.ec_lawful.proofs.ForWhole.LinesTell.{line-tells}
 use Rattle.ec_lawful.specs.OfClerkSteps.Frees.{FreesAgree, FullsAgree}
 use Rattle.ec_lawful.specs.OfClerkSteps.Trying.{IsTrying}
 use Rattle.ec_lawful.specs.OfClerkSteps.Zeros.{HasNoZero, ZerosAgree}
 use Rattle.ec_lawful.specs.OfClerkSteps.Fulls.{IsFullAt}
-use Rattle.ec_lawful.proofs.OfClerkSteps.Sent.{own-full, settle-own}
+use Rattle.ec_lawful.proofs.OfClerkSteps.ForNames.Sent.{own-full, settle-own}
 use Rattle.ec_lawful.specs.BeginLaws.{answered_start, behind_first, first_call, first_ghost}
-use Rattle.ec_lawful.proofs.FirstAnswered.{first-answers}
-use Rattle.ec_lawful.proofs.First.{first-begun, first-counts, first-cuts}
+use Rattle.ec_lawful.proofs.ForBegins.FirstAnswered.{first-answers}
+use Rattle.ec_lawful.proofs.ForBegins.First.{first-begun, first-counts, first-cuts}
 use Rattle.ec_lawful.specs.Steps.{StepIsDone as IsDone, LineIsNew, clerk_begun, calling, in_call}
 use Rattle.ec_lawful.specs.Ties.{called, waiting}
 use Rattle.ec_lawful.specs.Whole.{ShowsAll, Whole}

@@ -11,27 +11,27 @@ use Rattle.ec_history.specs.Placing.{place, watch}
 use Rattle.ec_history.specs.declared.shown.Shown.{Shown}
 use Rattle.ec_sessions.specs.declared.slot.Slot.{Slot}
 use Rattle.ec_durable.specs.Durable.{slot}
-use Rattle.ec_history.proofs.OfLaws.KeptFormed.{kept-formed}
-use Rattle.ec_history.proofs.OfLaws.Numbers.{each-filter}
-use Rattle.ec_history.proofs.OfLaws.Pulled.{pulled-fit_alone}
+use Rattle.ec_history.proofs.OfLaws.ForFormed.KeptFormed.{kept-formed}
+use Rattle.ec_history.proofs.OfLaws.ForPlacing.Numbers.{each-filter}
+use Rattle.ec_history.proofs.OfLaws.ForPlacing.Pulled.{pulled-fit_alone}
 use Rattle.ec_coherence.specs.System.{System, base_of, is_of, undurable}
 use Rattle.ec_coherence.specs.Events.{shown_boot, shown_op}
 use Rattle.ec_coherence.specs.Log.{HasWrites}
-use Rattle.ec_coherence.proofs.Formed.{all-sound}
-use Rattle.ec_coherence.proofs.OpenSlots as slots
-use Rattle.ec_coherence.proofs.Tables.{same_some}
+use Rattle.ec_coherence.proofs.ForServer.Formed.{all-sound}
+use Rattle.ec_coherence.proofs.ForBatches.OpenSlots as slots
+use Rattle.ec_coherence.proofs.ForServer.Tables.{same_some}
 use Rattle.ec_coherence.specs.CommitLaws.{AllAgree}
 use Rattle.ec_coherence.specs.Watches.{WatchAgrees, still_in}
 use Rattle.ec_history.specs.OfLaws.Accounts.{IsUndurable, LinesTell}
 use Rattle.ec_history.proofs.OfLaws.Telling.{kept-told}
 use Rattle.ec_lawful.specs.LawfulRuns.{ShowLawfully}
 use Rattle.ec_lawful.specs.HeadlineLaws.{TellsAll}
-use Rattle.ec_lawful.proofs.LinesTell.{Still, still-of}
+use Rattle.ec_lawful.proofs.ForWhole.LinesTell.{Still, still-of}
 use Rattle.ec_base.proofs.Options.{none_some}
 use Rattle.ec_base.proofs.Bools.{same_tests, clash as off, is-true, holds-true as holds}
 use Rattle.ec_coherence.proofs.LossesTold.{each-of-map}
-use Rattle.ec_history.proofs.OfLaws.BasesAlike.{each-map}
-use Rattle.ec_history.proofs.OfLaws.LateLoss.{filter-same}
+use Rattle.ec_history.proofs.OfLaws.ForPlacing.BasesAlike.{each-map}
+use Rattle.ec_history.proofs.OfLaws.ForPlacing.LateLoss.{filter-same}
 
 -- a number of these operations is one
 member-of : (p : Op → Bool) (ks : List Op) → Each (λ k. T (p k) → T (member k.number (numbers (filter p ks)))) ks

@@ -7,8 +7,8 @@ use Rattle.ec_protocol.specs.Clerk.{doing, take, taken}
 use Rattle.ec_protocol.specs.declared.clerk.Clerk.{Clerk}
 use Rattle.ec_coherence.specs.System.{System}
 use Rattle.ec_lawful.specs.OfClerkSteps.JoinLaws.{ghosts_joined}
-use Rattle.ec_lawful.proofs.OfClerkSteps.Cases as cases
-use Rattle.ec_lawful.proofs.OfClerkSteps.Spent.{spent-stays}
+use Rattle.ec_lawful.proofs.OfClerkSteps.ForJoins.Cases as cases
+use Rattle.ec_lawful.proofs.OfClerkSteps.ForDoings.Spent.{spent-stays}
 use Rattle.ec_lawful.specs.Steps.{StepIsDone}
 use Rattle.ec_lawful.specs.Whole.{Whole}
 use Rattle.ec_lawful.specs.SettleLaws.{IsLined, TriesAll}

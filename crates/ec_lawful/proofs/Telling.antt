@@ -8,14 +8,14 @@ use Rattle.ec_history.specs.declared.shown.Shown.TheVariants as show
 use Rattle.ec_protocol.specs.Clerk.{Doing}
 use Rattle.ec_coherence.specs.System.{System, Ghost}
 use Rattle.ec_coherence.specs.Steps.{doing_in}
-use Rattle.ec_coherence.proofs.Tables.{at-put}
+use Rattle.ec_coherence.proofs.ForServer.Tables.{at-put}
 use Rattle.ec_coherence.specs.CommitLaws.{AllAgree}
 use Rattle.ec_coherence.specs.StandLaws.{lined}
 use Rattle.ec_lawful.specs.OfClerkSteps.Trying.{AnswersWith}
 use Rattle.ec_history.specs.OfLaws.Accounts.{LinesTell}
 use Rattle.ec_lawful.specs.Headline.{FrontsAreLawful}
 use Rattle.ec_lawful.specs.HeadlineLaws.{TellsAll}
-use Rattle.ec_lawful.proofs.LinesTell.{line-tells}
+use Rattle.ec_lawful.proofs.ForWhole.LinesTell.{line-tells}
 
 module _ (g : System) (c b : ℕ) (d e : Doing) (γ : Ghost) where
   -- whatever the clerk does, where nothing is shown

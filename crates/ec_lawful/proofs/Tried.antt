@@ -18,10 +18,10 @@ use Rattle.ec_protocol.specs.declared.clerk.Out.TheVariants as out
 use Rattle.ec_protocol.specs.declared.clerk.Waiting.{Waiting}
 use Rattle.ec_coherence.specs.System.{System, Ghost}
 use Rattle.ec_coherence.specs.Steps.{doing_in}
-use Rattle.ec_coherence.proofs.Tables.{same_some}
+use Rattle.ec_coherence.proofs.ForServer.Tables.{same_some}
 use Rattle.ec_lawful.specs.OfClerkSteps.CallLaws.{is_answer}
 use Rattle.ec_lawful.specs.OfClerkSteps.Waits.{HasLine, does_wait}
-use Rattle.ec_lawful.proofs.OfClerkSteps.Still.{tries-answer}
+use Rattle.ec_lawful.proofs.OfClerkSteps.ForCalls.Still.{tries-answer}
 use Rattle.ec_coherence.specs.Answers.{Gives}
 use Rattle.ec_lawful.specs.OfClerkSteps.Answering.{Suits, answered_clerk, done_clerk}
 use Rattle.ec_lawful.specs.OfClerkSteps.AnswerLaws.{IsTried}
@@ -29,9 +29,9 @@ use Rattle.ec_lawful.specs.OfClerkSteps.Trying.{IsTrying}
 use Rattle.ec_lawful.proofs.OfClerkSteps.Single as single
 use Rattle.ec_lawful.proofs.OfClerkSteps.Singles.{tries-on}
 use Rattle.ec_lawful.specs.OfClerkSteps.Moves.{IsStill}
-use Rattle.ec_lawful.proofs.OfClerkSteps.Stilling.{are-still}
+use Rattle.ec_lawful.proofs.OfClerkSteps.ForNames.Stilling.{are-still}
 use Rattle.ec_lawful.specs.Whole.{ShowsAll}
-use Rattle.ec_lawful.proofs.Carrying.{same-shows}
+use Rattle.ec_lawful.proofs.ForBegins.Carrying.{same-shows}
 use Rattle.ec_lawful.proofs.Answering.{Comes, all-in, comes-so}
 
 -- A call that waits on leaves the clerk's session and its ids.

@@ -6,13 +6,13 @@ use Rattle.ec_protocol.specs.Clerk.{Doing, Tried, Waits, Answered, try, try_all,
 use Rattle.ec_protocol.specs.declared.clerk.Waiting.{Waiting}
 use Rattle.ec_coherence.specs.System.{System, Ghost}
 use Rattle.ec_coherence.specs.Steps.{doing_in}
-use Rattle.ec_coherence.proofs.Settling.{Keeping, all-keeps}
-use Rattle.ec_coherence.proofs.Try.{OnTried}
-use Rattle.ec_coherence.proofs.TriedList.{same-verdict}
+use Rattle.ec_coherence.proofs.ForClerk.Settling.{Keeping, all-keeps}
+use Rattle.ec_coherence.proofs.ForClerk.Try.{OnTried}
+use Rattle.ec_coherence.proofs.ForClerk.TriedList.{same-verdict}
 use Rattle.ec_lawful.specs.OfClerkSteps.CallLaws.{IsStillIf}
 use Rattle.ec_lawful.specs.OfClerkSteps.Waits.{HasLine}
-use Rattle.ec_lawful.proofs.OfClerkSteps.Quiet.{quiet-lines}
-use Rattle.ec_lawful.proofs.OfClerkSteps.Still.{tries-answer}
+use Rattle.ec_lawful.proofs.OfClerkSteps.ForCalls.Quiet.{quiet-lines}
+use Rattle.ec_lawful.proofs.OfClerkSteps.ForCalls.Still.{tries-answer}
 use Rattle.ec_lawful.specs.OfClerkSteps.Trying.{IsTrying}
 use Rattle.ec_lawful.proofs.OfClerkSteps.Given.{spent-verdict}
 use Rattle.ec_lawful.proofs.OfClerkSteps.Single.{each-mid}

@@ -9,7 +9,7 @@ use Rattle.ec_history.specs.Placing.{EachLine, place}
 use Rattle.ec_history.specs.declared.shown.Shown.TheVariants.{Unsettled}
 use Rattle.ec_history.specs.OfLaws.Renaming.{image_by}
 use Rattle.ec_history.specs.OfLaws.NewIds.{IsNewId}
-use Rattle.ec_history.proofs.OfLaws.Reading.{read-by-places}
+use Rattle.ec_history.proofs.OfLaws.ForRenamed.Reading.{read-by-places}
 use Rattle.ec_durable.specs.WellFormed.{WellFormed}
 use Rattle.ec_durable.specs.declared.state.Durable.{Durable}
 use Rattle.ec_protocol.specs.World.{moving, open_world}
@@ -20,19 +20,19 @@ use Rattle.ec_coherence.specs.System.{System, base_of}
 use Rattle.ec_coherence.specs.Steps.{Stands, call_of}
 use Rattle.ec_coherence.specs.StandLaws.{lined}
 use Rattle.ec_lawful.specs.Olds.{opened_in}
-use Rattle.ec_lawful.proofs.Opens.{world-stands}
-use Rattle.ec_lawful.proofs.Volumes.{volumes-are-bases, volumes-have-greatest}
+use Rattle.ec_lawful.proofs.ForWhole.Opens.{world-stands}
+use Rattle.ec_lawful.proofs.ForWhole.Volumes.{volumes-are-bases, volumes-have-greatest}
 use Rattle.ec_lawful.specs.Headline.{FrontsAreLawful, IsGreatest, placed_on}
 use Rattle.ec_lawful.specs.Calls.{AreOf, IsOf}
 use Rattle.ec_lawful.specs.Steps as steps
 use Rattle.ec_lawful.specs.Steps.{MayHappen, StepsKeep}
 use Rattle.ec_lawful.proofs.CallsShown.{MayBe, event-tells, line-tells, quiet-tells}
 use Rattle.ec_lawful.proofs.Events.{event-holds}
-use Rattle.ec_lawful.proofs.Frames.{forgotten-stands, lined-stands}
+use Rattle.ec_lawful.proofs.ForWhole.Frames.{forgotten-stands, lined-stands}
 use Rattle.ec_lawful.specs.Runs.{OfRun}
 use Rattle.ec_lawful.specs.Whole.{Whole}
 use Rattle.ec_lawful.proofs.Runs.{keep}
-use Rattle.ec_lawful.proofs.OpensWhole.{opened-whole}
+use Rattle.ec_lawful.proofs.ForWhole.OpensWhole.{opened-whole}
 use Rattle.ec_lawful.proofs.Clerks.{clerks-keep-all}
 use Rattle.ec_lawful.proofs.News.{ids-new}
 use Rattle.ec_lawful.proofs.PlacesServe.{fronts-there}

@@ -2,7 +2,7 @@
 use Rattle.std.proofs.Common.{arith, ◌≡◌, refl, sym, ap, subst, inl, inr, ◌<◌, ◌^◌, ℕ, T, Bool, true, false, not, cond, ◌||◌, ◌==◌, [], ◌∷◌, ◌++◌}
 use Rattle.std.proofs.lemmas.Bool.Decides.{nat_tests}
 use Rattle.ec_volume.specs.Update.{member, distinct}
-use Rattle.ec_history.proofs.OfLaws.Numbers.{each-front}
+use Rattle.ec_history.proofs.OfLaws.ForPlacing.Numbers.{each-front}
 use Rattle.ec_history.specs.History.{History, Each}
 use Rattle.ec_history.specs.Legal.{IsLegal, from_formatted}
 use Rattle.ec_history.specs.declared.entry.Entry.{Entry}
@@ -13,7 +13,7 @@ use Rattle.ec_judge.proofs.Checks.{legal-less, lines-front}
 use Rattle.ec_legal.specs.Bounded.{AreEntries}
 use Rattle.ec_legal.specs.Fronts.{IsLegalFront, before_line}
 use Rattle.ec_base.proofs.Bools.{first as left, right}
-use Rattle.ec_history.proofs.OfLaws.Places.{places}
+use Rattle.ec_history.proofs.OfLaws.ForPlacing.Places.{places}
 
 -- a place that stands behind isn't apart from those in front
 stands-twice : (p : ℕ) (its : Entry) (h g : History) → T (not (member p (places (h ++ (p, its) ∷ g)))) → ⊥

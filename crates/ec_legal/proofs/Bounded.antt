@@ -2,7 +2,7 @@
 use Rattle.std.proofs.Common.{arith, ◌<◌, ◌≤◌, ℕ, T, Bool, true, false, cond, map, List, [], ◌∷◌, ◌++◌, length}
 use Rattle.std.specs.Prelude.{is_some}
 use Rattle.std.specs.List.{list_all}
-use Rattle.ec_history.proofs.OfLaws.Places.{places-within, places-distinct}
+use Rattle.ec_history.proofs.OfLaws.ForPlacing.Places.{places-within, places-distinct}
 use Rattle.ec_history.specs.OfLaws.Bases.{is_bounded_entry}
 use Rattle.ec_history.specs.History.{History, Each}
 use Rattle.ec_history.specs.Placing.{watch, owner, is_running, is_end_of, is_call_of, call_entry, late, line_entries, place_from, place}

@@ -2,8 +2,8 @@
 use Rattle.std.proofs.Common.{◌≡◌, refl, sym, ap, subst, ◌∙◌, arith, ◌≤◌, ◌<◌, ◌+◌, ℕ, true, cond, List, [], ◌∷◌, ◌++◌, length, take, drop, Option, Some, append_assoc}
 use Rattle.std.specs.Prelude.{slice_get}
 use Rattle.std.proofs.lemmas.Option.{get_or_from_slice_get, slice_get_within}
-use Rattle.ec_history.proofs.OfLaws.More.{watch-step}
-use Rattle.ec_history.proofs.OfLaws.Watching.{held-ended}
+use Rattle.ec_history.proofs.OfLaws.ForPlacing.More.{watch-step}
+use Rattle.ec_history.proofs.OfLaws.ForPlacing.Watching.{held-ended}
 use Rattle.ec_history.specs.History.{History}
 use Rattle.ec_history.specs.declared.entry.Entry.TheVariants as entry
 use Rattle.ec_history.specs.Placing.{watch, watch_next, late, ops_in, owner, is_running, line_entries, place_from}

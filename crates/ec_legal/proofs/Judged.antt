@@ -3,7 +3,7 @@ use Rattle.std.proofs.Common.{◌≡◌, refl, sym, ap, subst, ◌∙◌, arith,
 use Rattle.std.specs.Prelude.{Result, Ok, OnOk}
 use Rattle.std.specs.List.{list_all}
 use Rattle.std.proofs.lemmas.List.{take_all, drop_all}
-use Rattle.ec_history.proofs.OfLaws.Numbers.{each-front, each-back}
+use Rattle.ec_history.proofs.OfLaws.ForPlacing.Numbers.{each-front, each-back}
 use Rattle.ec_history.specs.OfLaws.Bases.{AreAtLines}
 use Rattle.ec_history.specs.History.{Base, History, Each}
 use Rattle.ec_history.specs.Legal.{from_formatted}

@@ -3,8 +3,8 @@ use Rattle.std.proofs.Common.{◌≡◌, refl, sym, ap, subst, ◌∙◌, ◌<�
 use Rattle.std.proofs.lemmas.Bool.{cond-true, cond-false, eqb-true, false≢true}
 use Rattle.std.proofs.lemmas.List.{take_more}
 use Rattle.std.proofs.Math.Seq.{drop-cons}
-use Rattle.ec_history.proofs.OfLaws.More.{watch-step}
-use Rattle.ec_history.proofs.OfLaws.Watching as laws
+use Rattle.ec_history.proofs.OfLaws.ForPlacing.More.{watch-step}
+use Rattle.ec_history.proofs.OfLaws.ForPlacing.Watching as laws
 use Rattle.ec_history.specs.Placing.{watch, begun, late, call_entry, is_end_of, is_call_of}
 use Rattle.ec_history.specs.declared.shown.Shown.{Shown}
 use Rattle.ec_history.specs.declared.shown.Shown.TheVariants.{Answered}

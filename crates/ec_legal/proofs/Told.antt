@@ -5,8 +5,8 @@ use Rattle.std.proofs.lemmas.Bool.{false≢true}
 use Rattle.std.proofs.lemmas.List.{take-append-drop, take-append-le, take_all}
 use Rattle.std.proofs.lemmas.Option.{get_or_from_slice_get, slice_get-get_or, slice_get_within}
 use Rattle.ec_base.specs.Limits.{clerk_count}
-use Rattle.ec_history.proofs.OfLaws.More.{watch-step}
-use Rattle.ec_history.proofs.OfLaws.Watching as laws
+use Rattle.ec_history.proofs.OfLaws.ForPlacing.More.{watch-step}
+use Rattle.ec_history.proofs.OfLaws.ForPlacing.Watching as laws
 use Rattle.ec_history.specs.declared.entry.Entry.TheVariants as entry
 use Rattle.ec_history.specs.Placing.{watch, late, ops_in, owner, is_running, is_end_of, is_call_of, call_entry, line_entries}
 use Rattle.ec_history.specs.declared.shown.Shown.{Shown}

@@ -1,6 +1,6 @@
 -- A line at fault may not follow those above it.
 use Rattle.std.proofs.Common.{sym, subst, ℕ, List, [], ◌∷◌}
-use Rattle.ec_history.proofs.OfLaws.Cuts.{placeable-back}
+use Rattle.ec_history.proofs.OfLaws.ForPlacing.Cuts.{placeable-back}
 use Rattle.ec_history.specs.Placing.{MayFollow, ArePlaceable}
 use Rattle.ec_history.specs.declared.rule.Rule.{Rule}
 use Rattle.ec_history.specs.declared.rule.Rule.TheVariants as rule

@@ -13,7 +13,7 @@ use Rattle.ec_lines.specs.Index.{IsCallIndex, IsCalled, NumberIsNew, Renews, cal
 use Rattle.ec_lines.specs.declared.index.CallLines.{CallLines}
 use Rattle.ec_lines.proofs.Starts.{start-rises, none-later}
 use Rattle.ec_base.proofs.Numbers.{same-self}
-use Rattle.ec_history.proofs.OfLaws.Places.{one_longer}
+use Rattle.ec_history.proofs.OfLaws.ForPlacing.Places.{one_longer}
 use Rattle.ec_history.proofs.PlacingLemmas.{each-turn}
 
 -- Each line.

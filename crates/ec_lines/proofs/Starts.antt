@@ -3,8 +3,8 @@ use Rattle.std.proofs.Common.{◌≡◌, refl, sym, ap, subst, ◌∙◌, arith,
 use Rattle.std.specs.Prelude.{◌⊎◌, is_none}
 use Rattle.std.proofs.lemmas.Bool.{cond_both, cond-true, cond-false, cases_eq, ne_eqb}
 use Rattle.ec_volume.specs.Image.{is_id}
-use Rattle.ec_history.proofs.OfLaws.More.{watch-step, last_place-step}
-use Rattle.ec_history.proofs.OfLaws.Watching.{from_front, IsSound, sound, answered_as, in_session, before_session, own_end, other_end, runs-begun}
+use Rattle.ec_history.proofs.OfLaws.ForPlacing.More.{watch-step, last_place-step}
+use Rattle.ec_history.proofs.OfLaws.ForPlacing.Watching.{from_front, IsSound, sound, answered_as, in_session, before_session, own_end, other_end, runs-begun}
 use Rattle.ec_history.specs.Placing.{watch, watch_next, unwatched, begun, answered, ended, owner, is_running, shows, last_place, gives_entry}
 use Rattle.ec_history.specs.declared.watch.Watch.{Watch}
 use Rattle.ec_history.specs.declared.shown.Shown.{Shown}

@@ -7,7 +7,7 @@ use Rattle.ec_base.specs.Tables.{keys, first as first_that}
 use Rattle.ec_volume.specs.Update.{member}
 use Rattle.ec_volume.specs.declared.update.Update.{Update}
 use Rattle.ec_order.specs.Order.{Issued, Holds, InClosure, ask, need, closure, needs}
-use Rattle.ec_history.proofs.OfLaws.Least.{list-complete, list-least, list-part}
+use Rattle.ec_history.proofs.OfLaws.ForPlacing.Least.{list-complete, list-least, list-part}
 use Rattle.ec_log.specs.Log.{is_asked, asked_for, first_number, first, closure_of, has_one_of, in_window, least, new_batch, pick_from, pick}
 use Rattle.ec_log.specs.declared.state.Asked.{Asked}
 use Rattle.ec_log.specs.declared.state.LogState.{LogState}

@@ -17,7 +17,7 @@ use Rattle.ec_protocol.specs.Server.{with_ids}
 use Rattle.ec_machine_laws.specs.Holding.{left_at, AreOwn}
 use Rattle.ec_machine_laws.proofs.Rows.{found-put, found-without, found-lowered, row-of-found}
 use Rattle.ec_base.proofs.Numbers.{same-self}
-use Rattle.ec_history.proofs.OfLaws.Sets.{behind}
+use Rattle.ec_history.proofs.OfLaws.ForPlacing.Sets.{behind}
 
 -- Tokens given back.
 

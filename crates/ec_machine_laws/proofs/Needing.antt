@@ -17,7 +17,7 @@ use Rattle.ec_plain.specs.declared.call.Call.TheVariants as call
 use Rattle.ec_cache.specs.Cache.{holds, images_held}
 use Rattle.ec_cache.specs.declared.state.CacheState.{CacheState}
 use Rattle.ec_cache.specs.OfReport.Report.{Owed}
-use Rattle.ec_history.proofs.OfLaws.Touching.{plain-touches}
+use Rattle.ec_history.proofs.OfLaws.ForPlacing.Touching.{plain-touches}
 use Rattle.ec_cache.specs.OfResolve.Agreement.{Shows, IsFor, IsFirst, IsNeeded, is_unread, is_unwritten}
 use Rattle.ec_cache.specs.OfResolve.Resolve.{evaluate}
 use Rattle.ec_cache.specs.declared.resolve.verdict.Verdict.TheVariants.{Need, NeedIds}

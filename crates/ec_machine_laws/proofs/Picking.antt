@@ -9,7 +9,7 @@ use Rattle.ec_base.specs.Tables.{Table, keys, first as first_that}
 use Rattle.ec_volume.specs.Update.{member}
 use Rattle.ec_volume.specs.declared.update.Update.{Update}
 use Rattle.ec_order.specs.Order.{Issued, Holds, InClosure, ask, closure, needs}
-use Rattle.ec_history.proofs.OfLaws.Least.{list-complete, list-part, list-sorted, needed-by_number, closure-needed, closure-within, closure-rest, taken-needed}
+use Rattle.ec_history.proofs.OfLaws.ForPlacing.Least.{list-complete, list-part, list-sorted, needed-by_number, closure-needed, closure-within, closure-rest, taken-needed}
 use Rattle.ec_log.specs.Log.{is_asked, asked_for, first_number, first, closure_of, has_one_of, in_window, least, new_batch, pick_from, pick}
 use Rattle.ec_log.specs.declared.state.Asked.{Asked}
 use Rattle.ec_log.specs.declared.state.Pick.{Pick}

@@ -13,7 +13,7 @@ use Rattle.ec_sessions.specs.Windows.{has, mark_answer, is_marked, after_mark}
 use Rattle.ec_sessions.specs.WindowLaws.{has-after_same, has-after_other}
 use Rattle.ec_sessions.specs.declared.window.Window.{Window}
 use Rattle.ec_history.specs.OfLaws.Needs.{holds_needed}
-use Rattle.ec_history.proofs.OfLaws.Least.{needed-by_number, needed-from_numbers}
+use Rattle.ec_history.proofs.OfLaws.ForPlacing.Least.{needed-by_number, needed-from_numbers}
 use Rattle.ec_log.specs.Log.{issue, pick, after_pick, ops_in, kept, end}
 use Rattle.ec_log.specs.declared.state.Asked.{Asked}
 use Rattle.ec_log.specs.declared.state.Pick.{Pick}

@@ -9,7 +9,7 @@ use Rattle.ec_base.specs.Tables.{keys, or_else}
 use Rattle.ec_volume.specs.Update.{member}
 use Rattle.ec_volume.specs.declared.update.Update.{Update}
 use Rattle.ec_order.specs.Order.{Issued, closure, needs}
-use Rattle.ec_history.proofs.OfLaws.Least.{list-part}
+use Rattle.ec_history.proofs.OfLaws.ForPlacing.Least.{list-part}
 use Rattle.ec_log.specs.Log.{asked_for, closure_of, pick, after_pick, batch}
 use Rattle.ec_log.specs.declared.state.Asked.{Asked}
 use Rattle.ec_log.specs.declared.state.Pick.TheVariants.{Batch}

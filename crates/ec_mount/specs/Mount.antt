@@ -88,9 +88,6 @@ TellsLost id boot w text = TellsCame (λ lanes all told. Lost id boot lanes w.ne
 abbrev pub TellsPeer : ℕ → ℕ → Outside → List ℕ → Type 0
 TellsPeer id boot w text = (f : NodeFault) × (place : ℕ) × IsPeerFault f place × TellsCame (λ lanes all told. Met id boot lanes w.net w.net_after f all told) w (peer_text place) text
 
-abbrev pub TellsSpent : ℕ → ℕ → Outside → List ℕ → Type 0
-TellsSpent id boot w text = (c : Counter) × TellsCame (λ lanes all told. Spends id boot lanes w.net w.net_after c all told) w (shown_text (shown.Spent c)) text
-
 -- the script was read whole
 abbrev pub HasRows : Outside → Type 0
 HasRows w = (rows : List Row) × GivesRows w.left w.left_after rows
@@ -104,7 +101,7 @@ Ends id boot status.NetFault w text = TellsLost id boot w text
 Ends id boot status.Limit w text = TellsLimit w text
 Ends id boot status.OldBoot w text = HasRows w × TellsOldBoot id boot w text
 Ends id boot status.PeerFault w text = TellsPeer id boot w text
-Ends id boot status.Spent w text = TellsSpent id boot w text
+Ends id boot status.Spent w text = (c : Counter) × TellsCame (λ lanes all told. Spends id boot lanes w.net w.net_after c all told) w (shown_text (shown.Spent c)) text
 Ends id boot status.StartFault w text = HasRows w × (w.net_after ≡ w.net) × (text ≡ [])
 Ends id boot status.SinkFault w text = ⊥
 Ends id boot status.NoMemory w text = ⊥

@@ -15,7 +15,7 @@ use Rattle.ec_protocol.specs.declared.world.Sent.{Sent}
 use Rattle.ec_protocol.specs.declared.world.World.{World}
 use Rattle.ec_quiet.specs.Scenes.{IsScene, Mail, Scene, letter, mail_of}
 use Rattle.ec_base.proofs.Lists.{regroup, no-more}
-use Rattle.ec_history.proofs.OfLaws.BasesAlike.{each-map}
+use Rattle.ec_history.proofs.OfLaws.ForPlacing.BasesAlike.{each-map}
 use Rattle.ec_base.proofs.Numbers.{next-place}
 
 -- Lists.

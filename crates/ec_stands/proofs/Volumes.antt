@@ -11,8 +11,8 @@ use Rattle.ec_volume.specs.declared.image.Kind.TheVariants as kind
 use Rattle.ec_volume.specs.declared.update.Update.{Update}
 use Rattle.ec_volume.proofs.Changed.{changed_images}
 use Rattle.ec_volume.proofs.Fitting.{none_is_fit}
-use Rattle.ec_history.proofs.OfLaws.Formatted.{formatted-formed}
-use Rattle.ec_history.proofs.OfLaws.KeptFormed.{kept-formed}
+use Rattle.ec_history.proofs.OfLaws.ForFormed.Formatted.{formatted-formed}
+use Rattle.ec_history.proofs.OfLaws.ForFormed.KeptFormed.{kept-formed}
 use Rattle.ec_sessions.specs.Slots as slots
 use Rattle.ec_durable.specs.declared.state.Durable.{Durable}
 use Rattle.ec_durable.specs.declared.record.Record.{Record}

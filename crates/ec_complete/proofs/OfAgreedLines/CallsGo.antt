@@ -10,10 +10,10 @@ use Rattle.ec_base.specs.declared.ids.Hold.TheVariants.{Free, Read, Write}
 use Rattle.ec_volume.specs.Update.{fits, is_sound, member, operands}
 use Rattle.ec_volume.specs.Volume.{Fits, Images}
 use Rattle.ec_volume.specs.declared.update.Update.{Update}
-use Rattle.ec_history.proofs.OfLaws.Laws.{call-sound}
-use Rattle.ec_history.proofs.OfLaws.Planned.{call-fine}
-use Rattle.ec_history.proofs.OfLaws.Renamed.{rename-fine}
-use Rattle.ec_history.proofs.OfLaws.Touching.{plain-touches}
+use Rattle.ec_history.proofs.OfLaws.ForFormed.Laws.{call-sound}
+use Rattle.ec_history.proofs.OfLaws.ForFormed.Planned.{call-fine}
+use Rattle.ec_history.proofs.OfLaws.ForFormed.Renamed.{rename-fine}
+use Rattle.ec_history.proofs.OfLaws.ForPlacing.Touching.{plain-touches}
 use Rattle.ec_plain.specs.Plain.{plain}
 use Rattle.ec_plain.specs.declared.call.Outcome.{Outcome}
 use Rattle.ec_cache.specs.Cache.{counted, holds, images_held}

@@ -23,7 +23,7 @@ use Rattle.ec_quiet.specs.OfDeliveries.PhasesBehind.{IsBehind, saved}
 use Rattle.ec_quiet.specs.OfDeliveries.WithinClosures.{IsWithin}
 use Rattle.ec_quiet.specs.OfDeliveries.Scripts.{AreWriteBehind, IsWriteBehind, volume_behind}
 use Rattle.ec_quiet.specs.OfDeliveries.ScriptWorks.{IsWorkOf}
-use Rattle.ec_quiet.proofs.OfDeliveries.Worked.{works-behind}
+use Rattle.ec_quiet.proofs.OfDeliveries.ForWriteBehind.Worked.{works-behind}
 use Rattle.ec_complete.proofs.OfAgreedLines.Lines.{Along, IsOther}
 use Rattle.ec_complete.proofs.OfAgreedLines.Settled.{Shows, stays}
 use Rattle.ec_complete.proofs.OfAgreedLines.Telling.{volume-told, works-told}

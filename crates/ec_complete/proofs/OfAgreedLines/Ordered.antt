@@ -10,7 +10,7 @@ use Rattle.ec_volume.specs.declared.update.Update.{Update}
 use Rattle.ec_cache.specs.Cache as cache
 use Rattle.ec_cache.specs.declared.state.CacheState.{CacheState}
 use Rattle.ec_cache.specs.declared.state.Held.{Held}
-use Rattle.ec_coherence.proofs.Keyed.{keyed-renewed}
+use Rattle.ec_coherence.proofs.ForClerk.Keyed.{keyed-renewed}
 use Rattle.ec_quiet.specs.Evictions.{IsOld}
 use Rattle.ec_quiet.proofs.Beside.{filter-both}
 use Rattle.ec_quiet.proofs.Taking.{each-both, each-of, regroup}

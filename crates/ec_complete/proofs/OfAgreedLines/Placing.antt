@@ -8,11 +8,11 @@ use Rattle.ec_history.specs.declared.entry.Entry.{Entry}
 use Rattle.ec_history.specs.declared.entry.Entry.TheVariants as entry
 use Rattle.ec_history.specs.declared.shown.Shown.{Shown}
 use Rattle.ec_history.specs.declared.shown.Shown.TheVariants as show
-use Rattle.ec_history.proofs.OfLaws.Cuts.{throughout-append}
+use Rattle.ec_history.proofs.OfLaws.ForPlacing.Cuts.{throughout-append}
 use Rattle.ec_log.specs.declared.state.Asked.{Asked}
 use Rattle.ec_history.specs.OfLaws.NewIds.{IsNewId, MayChange}
-use Rattle.ec_history.proofs.OfLaws.Placed as placed
-use Rattle.ec_history.proofs.OfLaws.IdleIds.{Full, Same, begin, full}
+use Rattle.ec_history.proofs.OfLaws.ForRenamed.Placed as placed
+use Rattle.ec_history.proofs.OfLaws.ForRenamed.IdleIds.{Full, Same, begin, full}
 use Rattle.ec_protocol.specs.declared.script.Line.{Line}
 use Rattle.ec_quiet.specs.OfDeliveries.Closures.{IsInClosureOf, operations}
 use Rattle.ec_quiet.specs.OfDeliveries.Scripts.{IsWriteBehind, LineAsks, volume_behind}

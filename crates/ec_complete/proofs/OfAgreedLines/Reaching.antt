@@ -8,7 +8,7 @@ use Rattle.ec_protocol.specs.World as world
 use Rattle.ec_protocol.specs.World.{Moving, add_call, call, call_of, moving}
 use Rattle.ec_protocol.specs.declared.clerk.Clerk.{Clerk}
 use Rattle.ec_protocol.specs.declared.world.World.{World}
-use Rattle.ec_coherence.proofs.Tables.{at-put, at-without}
+use Rattle.ec_coherence.proofs.ForServer.Tables.{at-put, at-without}
 use Rattle.ec_quiet.specs.SettlingScenes.{Reaches}
 use Rattle.ec_machine_laws.specs.Answers.{Asking}
 use Rattle.ec_machine_laws.specs.PlainLines.{asked_in}

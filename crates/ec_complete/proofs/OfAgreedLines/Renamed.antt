@@ -20,13 +20,13 @@ use Rattle.ec_log.specs.declared.state.Asked.{Asked}
 use Rattle.ec_log.specs.declared.state.Asked.TheVariants.{Object, Op as OneOp, All}
 use Rattle.ec_history.specs.OfLaws.Renaming.{IsRenaming}
 use Rattle.ec_history.specs.OfLaws.Renamed.{AreRenamed, IsRenamed, op_by, update_by}
-use Rattle.ec_history.proofs.OfLaws.Calls.{plain-by}
-use Rattle.ec_history.proofs.OfLaws.Images.{operand-by}
-use Rattle.ec_history.proofs.OfLaws.RenamedKept.{issues-at, kept-at, updates-by}
-use Rattle.ec_history.proofs.OfLaws.Mapped.{filter-map}
-use Rattle.ec_history.proofs.OfLaws.Needs.{needs-at}
-use Rattle.ec_history.proofs.OfLaws.Shapes.{after-by}
-use Rattle.ec_history.proofs.OfLaws.Walks.{path-by, reached_by}
+use Rattle.ec_history.proofs.OfLaws.ForRenamed.Calls.{plain-by}
+use Rattle.ec_history.proofs.OfLaws.ForRenamed.Images.{operand-by}
+use Rattle.ec_history.proofs.OfLaws.ForRenamed.RenamedKept.{issues-at, kept-at, updates-by}
+use Rattle.ec_history.proofs.OfLaws.ForRenamed.Mapped.{filter-map}
+use Rattle.ec_history.proofs.OfLaws.ForRenamed.Needs.{needs-at}
+use Rattle.ec_history.proofs.OfLaws.ForRenamed.Shapes.{after-by}
+use Rattle.ec_history.proofs.OfLaws.ForRenamed.Walks.{path-by, reached_by}
 use Rattle.ec_protocol.specs.declared.script.Line.{Line}
 use Rattle.ec_protocol.specs.declared.script.Line.TheVariants as line
 use Rattle.ec_quiet.specs.OfDeliveries.Behind.{saved_by}

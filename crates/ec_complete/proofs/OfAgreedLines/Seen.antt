@@ -26,8 +26,8 @@ use Rattle.ec_coherence.specs.Steps.{Stands, running_clerk}
 use Rattle.ec_coherence.specs.System.{Eff, System, clerk_in, eff_from, if_in, recorded}
 use Rattle.ec_coherence.specs.System as system
 use Rattle.ec_coherence.specs.Tokens.{TablesAgree, WhileUp, eff, eff_of, tables_in, tables_of, view}
-use Rattle.ec_coherence.proofs.Committing.{commits, committed}
-use Rattle.ec_coherence.proofs.Flushed.{may}
+use Rattle.ec_coherence.proofs.ForBatches.Committing.{commits, committed}
+use Rattle.ec_coherence.proofs.ForBatches.Flushed.{may}
 use Rattle.ec_quiet.specs.Scenes.{IsScene, Scene}
 use Rattle.ec_machine_laws.specs.Holding.{AreOwn}
 use Rattle.ec_quiet.specs.OfDeliveries.Coming.{IsTaken}

@@ -9,14 +9,14 @@ use Rattle.ec_history.specs.Placing.{begun, place, watch}
 use Rattle.ec_history.specs.declared.entry.Entry.{Entry}
 use Rattle.ec_history.specs.declared.shown.Shown.{Shown}
 use Rattle.ec_history.specs.declared.shown.Shown.TheVariants as show
-use Rattle.ec_history.proofs.OfLaws.Places.{places-within}
+use Rattle.ec_history.proofs.OfLaws.ForPlacing.Places.{places-within}
 use Rattle.ec_order.specs.Order.{InClosure}
 use Rattle.ec_wire.specs.declared.msg.Msg.{Msg}
 use Rattle.ec_log.specs.Choice.{numbers_asked}
 use Rattle.ec_protocol.specs.Drill.{onward}
 use Rattle.ec_protocol.specs.World.{Moving, deliver, due, runs}
 use Rattle.ec_coherence.specs.System.{System, base_of}
-use Rattle.ec_coherence.proofs.Rebased.{Alike, kept-same}
+use Rattle.ec_coherence.proofs.ForCommits.Rebased.{Alike, kept-same}
 use Rattle.ec_protocol.specs.declared.server.Server.{Server}
 use Rattle.ec_protocol.specs.declared.world.World.{World}
 use Rattle.ec_machine_laws.proofs.Sent.{deliveries-count}
@@ -31,12 +31,12 @@ use Rattle.ec_quiet.specs.SettlingScenes.{Reaches, here, on}
 use Rattle.ec_quiet.proofs.Delivering as delivering
 use Rattle.ec_quiet.proofs.Delivering.{due-is, none-due, scene-then}
 use Rattle.ec_quiet.specs.OfDeliveries.PhasesBehind.{IsBehind, MaySee}
-use Rattle.ec_quiet.proofs.OfDeliveries.StayingBehind.{stays-behind}
+use Rattle.ec_quiet.proofs.OfDeliveries.ForWriteBehind.StayingBehind.{stays-behind}
 use Rattle.ec_complete.specs.OfAgreedLines.Closures.{IsBaseOf, WorldIsKnown, StaysWithin}
 use Rattle.ec_quiet.specs.OfDeliveries.WithinClosures.{IsWithin, kept_operations}
 use Rattle.ec_complete.proofs.OfAgreedLines.Lines.{Along, IsOther, along-within, both-along, delivery-step, other-within, step-along}
 use Rattle.ec_complete.proofs.OfAgreedLines.Within.{lines-within}
-use Rattle.ec_history.proofs.OfLaws.BasesAlike.{each-map as each-turn}
+use Rattle.ec_history.proofs.OfLaws.ForPlacing.BasesAlike.{each-map as each-turn}
 
 -- Other ids for new objects at later places.
 module _ (base : Base) (g : System) (ss : List Shown) (of : IsBaseOf base g ss) (v : Images) (j : Work) where

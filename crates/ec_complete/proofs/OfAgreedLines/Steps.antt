@@ -37,9 +37,9 @@ use Rattle.ec_protocol.specs.declared.clerk.Out.{Out}
 use Rattle.ec_protocol.specs.declared.clerk.Out.TheVariants as out
 use Rattle.ec_protocol.specs.declared.clerk.Recalled.{Recalled}
 use Rattle.ec_protocol.specs.declared.clerk.Waiting.{Waiting}
-use Rattle.ec_coherence.proofs.Settling.{Keeping, settle-keeps}
-use Rattle.ec_coherence.proofs.Try.{OnTried}
-use Rattle.ec_coherence.proofs.TriedList.{same-verdict}
+use Rattle.ec_coherence.proofs.ForClerk.Settling.{Keeping, settle-keeps}
+use Rattle.ec_coherence.proofs.ForClerk.Try.{OnTried}
+use Rattle.ec_coherence.proofs.ForClerk.TriedList.{same-verdict}
 use Rattle.ec_complete.specs.OfAgreedLines.Counting.{IsCounted, sent_in}
 
 -- One more thing comes out.

@@ -32,12 +32,12 @@ use Rattle.ec_quiet.proofs.Delivering as delivering
 use Rattle.ec_quiet.proofs.Delivering.{due-is, none-due}
 use Rattle.ec_complete.proofs.OfAgreedLines.Seen.{clerk-there, scenes-seen}
 use Rattle.ec_quiet.specs.OfDeliveries.PhasesBehind.{IsBehind, IsLineBehind}
-use Rattle.ec_quiet.proofs.OfDeliveries.Shown.{lines-behind}
+use Rattle.ec_quiet.proofs.OfDeliveries.ForWriteBehind.Shown.{lines-behind}
 use Rattle.ec_quiet.specs.OfDeliveries.Closures.{IsInClosureOf}
 use Rattle.ec_quiet.specs.OfDeliveries.WithinClosures.{IsWithin, kept_operations}
 use Rattle.ec_complete.proofs.OfAgreedLines.Parts.{shown-part}
-use Rattle.ec_quiet.proofs.OfDeliveries.Parts.{asked-of, closure-grows}
-use Rattle.ec_history.proofs.OfLaws.BasesAlike.{each-map as each-turn}
+use Rattle.ec_quiet.proofs.OfDeliveries.ForWriteBehind.Parts.{asked-of, closure-grows}
+use Rattle.ec_history.proofs.OfLaws.ForPlacing.BasesAlike.{each-map as each-turn}
 
 -- The message that is due is the first one of the scene.
 module _ (w : World) (sc : Scene) (scene : IsScene w sc) (i : ℕ) (d : due w ≡ Some i) where

@@ -21,7 +21,7 @@ use Rattle.ec_protocol.specs.declared.world.Noted.TheVariants as noted_of
 use Rattle.ec_protocol.specs.declared.world.Sent.{Sent}
 use Rattle.ec_protocol.specs.declared.world.World.{World}
 use Rattle.ec_protocol.specs.declared.world.WorldFault.TheVariants as fault
-use Rattle.ec_coherence.proofs.Tables.{at-put, same_some}
+use Rattle.ec_coherence.proofs.ForServer.Tables.{at-put, same_some}
 use Rattle.ec_complete.specs.OfAgreedLines.Counting.{AreCounted, IsCounted, sent_in}
 use Rattle.ec_complete.proofs.OfAgreedLines.Steps.{messages-count}
 

@@ -7,7 +7,7 @@ use Rattle.ec_volume.specs.declared.image.Image.{Image}
 use Rattle.ec_volume.specs.declared.image.Image.TheVariants.{Gone, File, Dir}
 use Rattle.ec_durable.specs.WellFormed.{WellFormed}
 use Rattle.ec_durable.specs.declared.state.Durable.{Durable}
-use Rattle.ec_lawful.proofs.Volumes.{known-id}
+use Rattle.ec_lawful.proofs.ForWhole.Volumes.{known-id}
 use Rattle.ec_lawful.specs.Headline.{IsGreatest}
 
 -- of ids below this one

@@ -24,13 +24,13 @@ use Rattle.ec_coherence.specs.Steps as steps
 use Rattle.ec_coherence.specs.Steps.{Stands, end_lines, ended_line, found, record_lines, running_clerk, to_show}
 use Rattle.ec_coherence.specs.Stops.{RunsOn}
 use Rattle.ec_lawful.specs.Founds.{with_found}
-use Rattle.ec_lawful.proofs.Founds.{found-shown, founds-stand, steps-so}
-use Rattle.ec_lawful.proofs.OfClerkSteps.Steps.{step-most}
+use Rattle.ec_lawful.proofs.ForWhole.Founds.{found-shown, founds-stand, steps-so}
+use Rattle.ec_lawful.proofs.OfClerkSteps.ForJoins.Steps.{step-most}
 use Rattle.ec_lawful.specs.Headline.{FrontsAreLawful, IsGreatest, placed_on}
 use Rattle.ec_lawful.proofs.Stored.{show-lawfully}
 use Rattle.ec_lawful.proofs.PlacesServe.{disk-there, fronts-there}
 use Rattle.ec_lawful.specs.Runs.{OfRun}
-use Rattle.ec_lawful.proofs.Halts.{found-whole}
+use Rattle.ec_lawful.proofs.ForWhole.Halts.{found-whole}
 use Rattle.ec_drill.specs.OfPromise.Left.{IsStoredIn, in_doubt}
 use Rattle.ec_base.proofs.Options.{none_some}
 

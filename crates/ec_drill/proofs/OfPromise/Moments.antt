@@ -8,7 +8,7 @@ use Rattle.ec_history.specs.Lines.{IsStored}
 use Rattle.ec_history.specs.Placing.{EachLine}
 use Rattle.ec_history.specs.declared.shown.Shown.{Shown}
 use Rattle.ec_history.specs.declared.shown.Shown.TheVariants as show
-use Rattle.ec_history.proofs.OfLaws.Numbers.{each-back, each-front}
+use Rattle.ec_history.proofs.OfLaws.ForPlacing.Numbers.{each-back, each-front}
 use Rattle.ec_plain.specs.BoundedCalls.{is_bounded}
 use Rattle.ec_plain.specs.declared.call.Call.{Call}
 use Rattle.ec_durable.specs.WellFormed.{WellFormed}
@@ -23,7 +23,7 @@ use Rattle.ec_protocol.specs.declared.world.Noted.TheVariants as noted_of
 use Rattle.ec_protocol.specs.declared.world.World.{World}
 use Rattle.ec_protocol.specs.declared.world.WorldFault.{WorldFault}
 use Rattle.ec_coherence.specs.Steps.{call_of}
-use Rattle.ec_coherence.proofs.Tables.{same_some}
+use Rattle.ec_coherence.proofs.ForServer.Tables.{same_some}
 use Rattle.ec_lawful.specs.Headline.{IsGreatest, Lines, Pieces}
 use Rattle.ec_lawful.specs.Headline as headline
 use Rattle.ec_lawful.specs.Calls.{AreOf, IsOf}

@@ -17,9 +17,6 @@ abbrev pub PartInOrder : (most : ℕ) (w : Outside) (last : List ℕ) → RanInP
 PartInOrder most w last r = IsToldAll w r.reads → ∥ AreInOrder r.reads r.fates r.state ∥₁
 
 -- each image that a crash may leave stands for the state at a moment by which all that was written had been shown, with the volume that durable lines name by then
-abbrev pub SpentLeaves : (most : ℕ) (w : Outside) → RanWhole most 15 w → Type 0
-SpentLeaves most w r = IsToldAll w r.reads → ∥ EndsStored r.reads r.fates r.state r.shown ∥₁
-
 abbrev pub PartLeaves : (most : ℕ) (w : Outside) (last : List ℕ) → RanInPart most w last → Type 0
 PartLeaves most w last r = w.tells → ∥ LeavesStored w.disk_after r.reads r.fates r.state (open_world r.state) r.shown ∥₁
 
@@ -47,7 +44,7 @@ InOrder most drill.SourceFault w d = ⊤
 InOrder most drill.BadDisk w d = ⊤
 
 abbrev pub Leaves : (most : ℕ) (st : drilled.Status) (w : Outside) → Drilled most st w → Type 0
-Leaves most drill.Spent w d = SpentLeaves most w d
+Leaves most drill.Spent w r = IsToldAll w r.reads → ∥ EndsStored r.reads r.fates r.state r.shown ∥₁
 Leaves most drill.SinkFault w d = OnCut most w (PartLeaves most w) d.1
 Leaves most drill.DiskFault w d = OnClean most w (PartLeaves most w) d.1
 Leaves most drill.NoMemory w (inl cut) = OnCut most w (PartLeaves most w) cut

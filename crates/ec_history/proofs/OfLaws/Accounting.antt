@@ -18,18 +18,18 @@ use Rattle.ec_history.specs.declared.entry.Entry.TheVariants as entry
 use Rattle.ec_history.specs.declared.watch.Watch.{Watch}
 use Rattle.ec_history.specs.declared.shown.Shown.{Shown}
 use Rattle.ec_history.specs.declared.shown.Shown.TheVariants.{Answered, Durable, Ended}
-use Rattle.ec_history.proofs.OfLaws.Late.{place-ended}
-use Rattle.ec_history.proofs.OfLaws.Held.{place-other}
-use Rattle.ec_history.proofs.OfLaws.More.{count-next, durable-step, issued-step, watch-step}
-use Rattle.ec_history.proofs.OfLaws.Numbers.{each-append, each-back, each-front}
-use Rattle.ec_history.proofs.OfLaws.Watching.{closed-undurable}
+use Rattle.ec_history.proofs.OfLaws.ForPlacing.Late.{place-ended}
+use Rattle.ec_history.proofs.OfLaws.ForPlacing.Held.{place-other}
+use Rattle.ec_history.proofs.OfLaws.ForPlacing.More.{count-next, durable-step, issued-step, watch-step}
+use Rattle.ec_history.proofs.OfLaws.ForPlacing.Numbers.{each-append, each-back, each-front}
+use Rattle.ec_history.proofs.OfLaws.ForPlacing.Watching.{closed-undurable}
 use Rattle.ec_history.specs.OfLaws.Accounts.{IsUndurable, IsAccounted, count_of}
 use Rattle.ec_history.proofs.OfLaws.Members.{left-apart, left-or, lost-left, member-all, member-left, member-parts, member-right}
 use Rattle.ec_history.proofs.OfLaws.Watched.{Has, begun-has, has-begun, stays, was, own}
 use Rattle.ec_base.specs.Options.{or_zero}
 use Rattle.ec_base.proofs.Numbers.{same-self as self}
 use Rattle.ec_base.proofs.Bools.{clash as off, none as off-from, on, is-true as is_on}
-use Rattle.ec_history.proofs.OfLaws.BasesAlike.{each-map}
+use Rattle.ec_history.proofs.OfLaws.ForPlacing.BasesAlike.{each-map}
 
 abbrev pub Accounts : Base → List Shown → Type 0
 Accounts base ss = (c b : ℕ) → Each (λ k. of_start c b k ≡ true → IsAccounted c b k.number ss) (issued base (place ss))

@@ -17,11 +17,11 @@ use Rattle.ec_history.specs.declared.entry.Entry.TheVariants as entry
 use Rattle.ec_history.specs.declared.watch.Watch.{Watch}
 use Rattle.ec_history.specs.declared.shown.Shown.{Shown}
 use Rattle.ec_history.specs.declared.shown.Shown.TheVariants.{Answered}
-use Rattle.ec_history.proofs.OfLaws.Cuts.{placeable-split, throughout-front, throughout-back}
-use Rattle.ec_history.proofs.OfLaws.Held.{place-late}
-use Rattle.ec_history.proofs.OfLaws.More.{durable-step, issued-append, watch-step}
-use Rattle.ec_history.proofs.OfLaws.Numbers.{each-append, each-back, each-front}
-use Rattle.ec_history.proofs.OfLaws.Watching.{closed-undurable, untold-runs}
+use Rattle.ec_history.proofs.OfLaws.ForPlacing.Cuts.{placeable-split, throughout-front, throughout-back}
+use Rattle.ec_history.proofs.OfLaws.ForPlacing.Held.{place-late}
+use Rattle.ec_history.proofs.OfLaws.ForPlacing.More.{durable-step, issued-append, watch-step}
+use Rattle.ec_history.proofs.OfLaws.ForPlacing.Numbers.{each-append, each-back, each-front}
+use Rattle.ec_history.proofs.OfLaws.ForPlacing.Watching.{closed-undurable, untold-runs}
 use Rattle.ec_history.specs.OfLaws.Accounts.{IsUndurable, IsAccounted}
 use Rattle.ec_history.specs.OfLaws.Laws.{OneMore}
 use Rattle.ec_history.proofs.OfLaws.Members.{lost-left, lost-parts, lost-right, member-left, member-right, none_some, some_is}
@@ -31,7 +31,7 @@ use Rattle.ec_history.proofs.OfLaws.Answering.{Grows, b, e, grows, number-last}
 use Rattle.ec_base.proofs.Numbers.{same-self as self}
 use Rattle.ec_base.proofs.Bools.{clash as off, none as off-from, on, is-true as is_on}
 use Rattle.ec_base.proofs.Lists.{all-taken}
-use Rattle.ec_history.proofs.OfLaws.BasesAlike.{each-map}
+use Rattle.ec_history.proofs.OfLaws.ForPlacing.BasesAlike.{each-map}
 
 -- a call's own operation
 each-own : (P : Op → Type 0) (base : Base) (ks : List Op) (p c f l g : ℕ) (cl : Call) (a : Answer) (op : Option ℕ)

@@ -17,20 +17,20 @@ use Rattle.ec_history.specs.declared.entry.Entry.{Entry}
 use Rattle.ec_history.specs.declared.entry.Entry.TheVariants as entry
 use Rattle.ec_history.specs.declared.shown.Shown.{Shown}
 use Rattle.ec_history.specs.declared.shown.Shown.TheVariants.{Answered}
-use Rattle.ec_history.proofs.OfLaws.Cuts.{legal-split, throughout-append}
-use Rattle.ec_history.proofs.OfLaws.Held.{place-late}
-use Rattle.ec_history.proofs.OfLaws.Late.{place-answer}
-use Rattle.ec_history.proofs.OfLaws.More.{count-next, durable-step, issued-append, issued-step, kept-step}
-use Rattle.ec_history.proofs.OfLaws.Numbers.{each-append, each-back, each-front}
-use Rattle.ec_history.proofs.OfLaws.Taken.{taken-covered, taken-issues}
-use Rattle.ec_history.proofs.OfLaws.Watching.{closed-undurable, untold-runs}
+use Rattle.ec_history.proofs.OfLaws.ForPlacing.Cuts.{legal-split, throughout-append}
+use Rattle.ec_history.proofs.OfLaws.ForPlacing.Held.{place-late}
+use Rattle.ec_history.proofs.OfLaws.ForPlacing.Late.{place-answer}
+use Rattle.ec_history.proofs.OfLaws.ForPlacing.More.{count-next, durable-step, issued-append, issued-step, kept-step}
+use Rattle.ec_history.proofs.OfLaws.ForPlacing.Numbers.{each-append, each-back, each-front}
+use Rattle.ec_history.proofs.OfLaws.ForPlacing.Taken.{taken-covered, taken-issues}
+use Rattle.ec_history.proofs.OfLaws.ForPlacing.Watching.{closed-undurable, untold-runs}
 use Rattle.ec_history.specs.OfLaws.Accounts.{IsUndurable, IsAccounted}
 use Rattle.ec_history.proofs.OfLaws.Members.{lost-left, lost-parts, lost-right, member-left, member-right, none_some}
 use Rattle.ec_history.proofs.OfLaws.Watched.{Has, begun-has, has-begun, listed-has, stays, was, own}
 use Rattle.ec_history.proofs.OfLaws.Accounting.{Accounts, Named, has-now, has-of, now-has, of-has, stays-durable}
 use Rattle.ec_base.proofs.Numbers.{same-self as self}
 use Rattle.ec_base.proofs.Bools.{clash as off, none as off-from, on, is-true as is_on}
-use Rattle.ec_history.proofs.OfLaws.BasesAlike.{each-map}
+use Rattle.ec_history.proofs.OfLaws.ForPlacing.BasesAlike.{each-map}
 
 -- One more call among the entries: the operations grow by its own, and are counted. It stands behind `past`, and is legal there.
 pub record Grows (base : Base) (most : ℕ) (old new : History) (e : ℕ × Entry) : Type 0 where

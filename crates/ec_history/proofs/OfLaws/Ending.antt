@@ -12,9 +12,9 @@ use Rattle.ec_history.specs.declared.entry.Entry.TheVariants as entry
 use Rattle.ec_history.specs.declared.watch.Watch.{Watch}
 use Rattle.ec_history.specs.declared.shown.Shown.{Shown}
 use Rattle.ec_history.specs.declared.shown.Shown.TheVariants.{Ended}
-use Rattle.ec_history.proofs.OfLaws.Late.{place-ended}
-use Rattle.ec_history.proofs.OfLaws.More.{count-next, durable-step, issued-step}
-use Rattle.ec_history.proofs.OfLaws.Watching.{own_end, other_end}
+use Rattle.ec_history.proofs.OfLaws.ForPlacing.Late.{place-ended}
+use Rattle.ec_history.proofs.OfLaws.ForPlacing.More.{count-next, durable-step, issued-step}
+use Rattle.ec_history.proofs.OfLaws.ForPlacing.Watching.{own_end, other_end}
 use Rattle.ec_history.specs.OfLaws.Accounts.{IsUndurable, IsAccounted}
 use Rattle.ec_history.proofs.OfLaws.Members.{lost-left, lost-right, member-all, none_some}
 use Rattle.ec_history.proofs.OfLaws.Watched.{Has}

@@ -14,9 +14,9 @@ use Rattle.ec_history.specs.Legal.{IsLegal, IsLegalNext}
 use Rattle.ec_history.specs.declared.entry.Answer.{Answer}
 use Rattle.ec_history.specs.declared.entry.Entry.{Entry}
 use Rattle.ec_history.specs.declared.entry.Entry.TheVariants as entry
-use Rattle.ec_history.proofs.OfLaws.Cuts.{legal-step}
-use Rattle.ec_history.proofs.OfLaws.More.{kept-step, issued-step}
-use Rattle.ec_history.proofs.OfLaws.Numbers.{count, IsUpTo, issued-up_to, kept-up_to}
+use Rattle.ec_history.proofs.OfLaws.ForPlacing.Cuts.{legal-step}
+use Rattle.ec_history.proofs.OfLaws.ForPlacing.More.{kept-step, issued-step}
+use Rattle.ec_history.proofs.OfLaws.ForPlacing.Numbers.{count, IsUpTo, issued-up_to, kept-up_to}
 use Rattle.ec_order.proofs.OrderLemmas.{below_more}
 
 -- A list of operations whose numbers rise, with one more behind it.

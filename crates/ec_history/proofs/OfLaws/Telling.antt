@@ -15,11 +15,11 @@ use Rattle.ec_history.specs.declared.entry.Entry.TheVariants as entry
 use Rattle.ec_history.specs.declared.watch.Watch.{Watch}
 use Rattle.ec_history.specs.declared.shown.Shown.{Shown}
 use Rattle.ec_history.specs.declared.shown.Shown.TheVariants.{Waits, Answered, Durable, Ended, Told, Crashed}
-use Rattle.ec_history.proofs.OfLaws.Cuts.{placeable-split, throughout-append}
-use Rattle.ec_history.proofs.OfLaws.Held.{place-other}
-use Rattle.ec_history.proofs.OfLaws.Late.{place-ended}
-use Rattle.ec_history.proofs.OfLaws.Numbers.{kept-each}
-use Rattle.ec_history.proofs.OfLaws.Places.{covered-longer}
+use Rattle.ec_history.proofs.OfLaws.ForPlacing.Cuts.{placeable-split, throughout-append}
+use Rattle.ec_history.proofs.OfLaws.ForPlacing.Held.{place-other}
+use Rattle.ec_history.proofs.OfLaws.ForPlacing.Late.{place-ended}
+use Rattle.ec_history.proofs.OfLaws.ForPlacing.Numbers.{kept-each}
+use Rattle.ec_history.proofs.OfLaws.ForPlacing.Places.{covered-longer}
 use Rattle.ec_history.specs.OfLaws.Accounts.{IsUndurable, IsAccounted, LinesTell}
 use Rattle.ec_history.specs.OfLaws.Laws.{OneMore}
 use Rattle.ec_history.proofs.OfLaws.Unlost.{kept-unlost}

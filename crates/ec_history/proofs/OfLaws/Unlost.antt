@@ -10,13 +10,13 @@ use Rattle.ec_plain.specs.declared.call.Call.{Call}
 use Rattle.ec_history.specs.declared.entry.Answer.{Answer}
 use Rattle.ec_history.specs.declared.entry.Entry.{Entry}
 use Rattle.ec_history.specs.declared.entry.Entry.TheVariants as entry
-use Rattle.ec_history.proofs.OfLaws.Cuts.{legal-step}
-use Rattle.ec_history.proofs.OfLaws.More.{kept-step, count-step}
-use Rattle.ec_history.proofs.OfLaws.Numbers.{count, each-append, each-filter, kept-up_to, IsUpTo}
+use Rattle.ec_history.proofs.OfLaws.ForPlacing.Cuts.{legal-step}
+use Rattle.ec_history.proofs.OfLaws.ForPlacing.More.{kept-step, count-step}
+use Rattle.ec_history.proofs.OfLaws.ForPlacing.Numbers.{count, each-append, each-filter, kept-up_to, IsUpTo}
 use Rattle.ec_history.proofs.OfLaws.Members.{lost-left, lost-parts, member-all}
 use Rattle.ec_base.proofs.Numbers.{same-self as self}
 use Rattle.ec_base.proofs.Bools.{clash as off, none as off-from, on, is-true as is_on}
-use Rattle.ec_history.proofs.OfLaws.BasesAlike.{each-map}
+use Rattle.ec_history.proofs.OfLaws.ForPlacing.BasesAlike.{each-map}
 
 abbrev IsUnlost : History → Op → Type 0
 IsUnlost h k = T (is_lost k.clerk k.boot k.number h) → ⊥

@@ -6,7 +6,7 @@ use Rattle.ec_volume.specs.Image.{is_id}
 use Rattle.ec_volume.specs.Update.{listed, member}
 use Rattle.ec_history.specs.Placing.{watch, watch_next, begun, answered, or_else, may_show}
 use Rattle.ec_history.specs.declared.watch.Watch.{Watch}
-use Rattle.ec_history.proofs.OfLaws.Watching.{answered_as, in_session, before_session}
+use Rattle.ec_history.proofs.OfLaws.ForPlacing.Watching.{answered_as, in_session, before_session}
 use Rattle.ec_history.proofs.OfLaws.Members.{member-left, member-right, member-parts, some_is, none_some}
 use Rattle.ec_base.proofs.Numbers.{same-self as self}
 use Rattle.ec_base.proofs.Bools.{on, is-true as is_on}

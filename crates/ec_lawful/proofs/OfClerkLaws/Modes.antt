@@ -14,12 +14,12 @@ use Rattle.ec_cache.specs.Cache.{held_mode, mode}
 use Rattle.ec_cache.specs.declared.state.CacheState.{CacheState}
 use Rattle.ec_cache.specs.declared.state.Held.{Held}
 use Rattle.ec_protocol.specs.Clerk.{lower_held, mark_recall, take_each}
-use Rattle.ec_coherence.proofs.CacheChange.{at-used, at-renewed}
-use Rattle.ec_coherence.proofs.Caches.{at-kept, at-lowered, at-numberless, at_most, bare}
-use Rattle.ec_coherence.proofs.Tables.{at-without}
+use Rattle.ec_coherence.proofs.ForClerk.CacheChange.{at-used, at-renewed}
+use Rattle.ec_coherence.proofs.ForClerk.Caches.{at-kept, at-lowered, at-numberless, at_most, bare}
+use Rattle.ec_coherence.proofs.ForServer.Tables.{at-without}
 use Rattle.ec_base.proofs.Numbers.{le-same}
-use Rattle.ec_lawful.proofs.OfClerkSteps.Resting.{mode-changed}
-use Rattle.ec_coherence.proofs.GiveBack.{weaker-right}
+use Rattle.ec_lawful.proofs.OfClerkSteps.ForCalls.Resting.{mode-changed}
+use Rattle.ec_coherence.proofs.ForClerk.GiveBack.{weaker-right}
 use Rattle.ec_base.proofs.HoldsLemmas.{rank-most}
 
 pub le-then : (a b c : ℕ) → b ≤ a → c ≤ b → c ≤ a

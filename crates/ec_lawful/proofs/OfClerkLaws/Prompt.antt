@@ -22,7 +22,7 @@ use Rattle.ec_protocol.specs.declared.clerk.Out.TheVariants as out
 use Rattle.ec_protocol.specs.declared.clerk.Waiting.{Waiting}
 use Rattle.ec_lawful.specs.OfClerkSteps.Waits.{does_wait}
 use Rattle.ec_lawful.specs.OfClerkSteps.CallLaws.{IsStill, IsStillIf, is_answer, prepared}
-use Rattle.ec_lawful.proofs.OfClerkSteps.Still.{begins-still, still-then, still-waits, tries-answer}
+use Rattle.ec_lawful.proofs.OfClerkSteps.ForCalls.Still.{begins-still, still-then, still-waits, tries-answer}
 use Rattle.ec_lawful.specs.OfClerkLaws.Prompt.{HeldCallsArePrompt, IsAmong, IsResting, is_durable, may_end, op_of}
 use Rattle.ec_lawful.proofs.OfClerkLaws.Grows.{Grows, among, grows}
 use Rattle.ec_lawful.proofs.OfClerkLaws.Walk.{each-round}

@@ -22,13 +22,13 @@ use Rattle.ec_protocol.specs.declared.clerk.Clerk.{Clerk}
 use Rattle.ec_protocol.specs.declared.clerk.Out.{Out}
 use Rattle.ec_protocol.specs.declared.clerk.Out.TheVariants as out
 use Rattle.ec_protocol.specs.declared.clerk.Recalled.{Recalled}
-use Rattle.ec_coherence.proofs.CacheChange.{at-used}
-use Rattle.ec_coherence.proofs.Caches.{at-kept}
+use Rattle.ec_coherence.proofs.ForClerk.CacheChange.{at-used}
+use Rattle.ec_coherence.proofs.ForClerk.Caches.{at-kept}
 use Rattle.ec_lawful.specs.OfClerkLaws.Tokens.{TokensStay, TokensStayBehind, is_back, is_end, is_granted}
 use Rattle.ec_lawful.proofs.OfClerkLaws.Modes.{ids-rise, le-then, lowered-other, marked-mode, numberless-mode, taken-mode}
 use Rattle.ec_lawful.proofs.OfClerkLaws.Walk.{IsWalk, claims-all, greets, no-room, settled}
 use Rattle.ec_base.proofs.Numbers.{le-same}
-use Rattle.ec_lawful.proofs.OfClerkSteps.Resting.{mode-changed as changed-mode}
+use Rattle.ec_lawful.proofs.OfClerkSteps.ForCalls.Resting.{mode-changed as changed-mode}
 
 -- Some message in a list gives a token back.
 

@@ -24,12 +24,12 @@ use Rattle.ec_protocol.specs.declared.clerk.Clerk.{Clerk}
 use Rattle.ec_protocol.specs.declared.clerk.Out.{Out}
 use Rattle.ec_protocol.specs.declared.clerk.Out.TheVariants as out
 use Rattle.ec_protocol.specs.declared.clerk.Recalled.{Recalled}
-use Rattle.ec_coherence.proofs.Lists.{each-more}
+use Rattle.ec_coherence.proofs.ForServer.Lists.{each-more}
 use Rattle.ec_lawful.specs.OfClerkLaws.Wants.{WantsRightly}
 use Rattle.ec_lawful.proofs.OfClerkLaws.Modes.{Falls, below-lower, changed-falls, evicted-falls, falls-same, le-then, lowers, used-falls}
 use Rattle.ec_lawful.proofs.OfClerkLaws.Walk.{IsOther, IsWalk, claims-all, greets, no-room, settled}
 use Rattle.ec_base.proofs.Numbers.{le-same}
-use Rattle.ec_history.proofs.OfLaws.BasesAlike.{each-map}
+use Rattle.ec_history.proofs.OfLaws.ForPlacing.BasesAlike.{each-map}
 
 -- A step goes on.
 

@@ -17,7 +17,7 @@ use Rattle.ec_history.specs.declared.entry.Answer.TheVariants as answer
 use Rattle.ec_history.specs.declared.shown.Shown.{Shown}
 use Rattle.ec_history.specs.declared.shown.Shown.TheVariants.{Answered}
 use Rattle.ec_history.specs.declared.watch.Watch.{Watch}
-use Rattle.ec_history.proofs.OfLaws.More.{watch-step}
+use Rattle.ec_history.proofs.OfLaws.ForPlacing.More.{watch-step}
 use Rattle.ec_durable.specs.Durable.{slot}
 use Rattle.ec_cache.specs.OfReport.Report.{Owed, due}
 use Rattle.ec_cache.specs.OfResolve.Agreement.{IsFor, IsOwed, Shows}
@@ -30,8 +30,8 @@ use Rattle.ec_protocol.specs.declared.clerk.Clerk.{Clerk}
 use Rattle.ec_coherence.specs.System.{System, with_start}
 use Rattle.ec_coherence.specs.Sessions.{HasNone}
 use Rattle.ec_coherence.specs.Tokens.{IsWrite}
-use Rattle.ec_coherence.proofs.Needs.{holds-write}
-use Rattle.ec_coherence.proofs.Tables.{by-session}
+use Rattle.ec_coherence.proofs.ForCommits.Needs.{holds-write}
+use Rattle.ec_coherence.proofs.ForServer.Tables.{by-session}
 use Rattle.ec_coherence.specs.Watches.{WatchAgrees, WatchesAgree, still_in}
 use Rattle.ec_coherence.specs.Answers.{Gives}
 use Rattle.ec_lawful.specs.OfClerkSteps.Answering.{Suits}

@@ -12,10 +12,10 @@ use Rattle.ec_cache.specs.declared.resolve.verdict.Verdict.TheVariants.{Need, Lo
 use Rattle.ec_protocol.specs.Clerk.{less_id, suits}
 use Rattle.ec_protocol.specs.declared.clerk.Clerk.{Clerk}
 use Rattle.ec_coherence.specs.ChangeLaws.{with_answer}
-use Rattle.ec_coherence.proofs.Keyed.{keyed-all-changed, keyed-all-used}
+use Rattle.ec_coherence.proofs.ForClerk.Keyed.{keyed-all-changed, keyed-all-used}
 use Rattle.ec_lawful.specs.OfClerkSteps.Orderly.{IsOrderly}
-use Rattle.ec_lawful.proofs.OfClerkSteps.Hand.{order-of, trim-of}
-use Rattle.ec_lawful.proofs.OfClerkSteps.Logs.{issue-order}
+use Rattle.ec_lawful.proofs.OfClerkSteps.ForDoings.Hand.{order-of, trim-of}
+use Rattle.ec_lawful.proofs.OfClerkSteps.ForDoings.Logs.{issue-order}
 use Rattle.ec_lawful.specs.OfClerkSteps.Answering.{Suits, answered_clerk, done_clerk}
 use Rattle.ec_lawful.proofs.OfClerkSteps.SameStores.{in-left, once-left}
 use Rattle.ec_base.proofs.Bools.{left as and_first}

@@ -9,9 +9,9 @@ use Rattle.ec_history.specs.Legal.{IsCall, IsLegal}
 use Rattle.ec_history.specs.declared.entry.Answer.{Answer}
 use Rattle.ec_history.specs.declared.entry.Entry.{Entry}
 use Rattle.ec_history.specs.declared.entry.Entry.TheVariants as entry
-use Rattle.ec_history.proofs.OfLaws.Beside.{IsBeside, beside-next}
-use Rattle.ec_history.proofs.OfLaws.Cuts.{throughout-append, throughout-back, throughout-front}
-use Rattle.ec_history.proofs.OfLaws.Inserted.{beside-first}
+use Rattle.ec_history.proofs.OfLaws.ForPlacing.Beside.{IsBeside, beside-next}
+use Rattle.ec_history.proofs.OfLaws.ForPlacing.Cuts.{throughout-append, throughout-back, throughout-front}
+use Rattle.ec_history.proofs.OfLaws.ForPlacing.Inserted.{beside-first}
 
 beside-behind : (base : Base) (c b : ℕ) (h past later : History) → IsBeside base c b past later → IsBeside base c b (past ++ h) (later ++ h)
 beside-behind base c b [] past later i = subst (λ z. IsBeside base c b z (later ++ [])) (sym (append-nil past)) (subst (IsBeside base c b past) (sym (append-nil later)) i)

@@ -13,11 +13,11 @@ use Rattle.ec_protocol.specs.declared.clerk.Clerk.{Clerk}
 use Rattle.ec_coherence.specs.System.{System, clerk_in, is_of, undurable}
 use Rattle.ec_coherence.specs.Log.{HasWrites, IdsAgree, LogsAgree, made_by}
 use Rattle.ec_coherence.specs.Images.{ImagesAgree}
-use Rattle.ec_coherence.proofs.Carried.{gone-is}
-use Rattle.ec_coherence.proofs.Ending.{untouched-after}
-use Rattle.ec_coherence.proofs.Ids.{in-back, in-front}
-use Rattle.ec_coherence.proofs.Lists.{each-at, filter-no, filter-yes, or_else}
-use Rattle.ec_coherence.proofs.OpenSlots.{open-at}
+use Rattle.ec_coherence.proofs.ForBatches.Carried.{gone-is}
+use Rattle.ec_coherence.proofs.ForBatches.Ending.{untouched-after}
+use Rattle.ec_coherence.proofs.ForBatches.Ids.{in-back, in-front}
+use Rattle.ec_coherence.proofs.ForServer.Lists.{each-at, filter-no, filter-yes, or_else}
+use Rattle.ec_coherence.proofs.ForBatches.OpenSlots.{open-at}
 use Rattle.ec_lawful.proofs.OfClerkSteps.Unmade.{IsMadeIn, Leaves, unmade}
 use Rattle.ec_base.proofs.Bools.{left as and_first, not-both as no_both, and-both as and_both, right as and_next, is-true}
 use Rattle.ec_base.proofs.Numbers.{equal}

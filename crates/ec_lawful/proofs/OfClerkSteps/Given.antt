@@ -18,14 +18,14 @@ use Rattle.ec_protocol.specs.declared.clerk.Out.TheVariants as out
 use Rattle.ec_protocol.specs.declared.clerk.Waiting.{Waiting}
 use Rattle.ec_coherence.specs.System.{System, Ghost}
 use Rattle.ec_coherence.specs.Steps.{doing_in}
-use Rattle.ec_coherence.proofs.Settling.{Keeping, all-keeps}
-use Rattle.ec_coherence.proofs.Tables.{same_some}
-use Rattle.ec_coherence.proofs.Try.{OnTried}
-use Rattle.ec_coherence.proofs.TriedList.{same-verdict}
+use Rattle.ec_coherence.proofs.ForClerk.Settling.{Keeping, all-keeps}
+use Rattle.ec_coherence.proofs.ForServer.Tables.{same_some}
+use Rattle.ec_coherence.proofs.ForClerk.Try.{OnTried}
+use Rattle.ec_coherence.proofs.ForClerk.TriedList.{same-verdict}
 use Rattle.ec_lawful.specs.OfClerkSteps.CallLaws.{Passes, is_answer}
 use Rattle.ec_lawful.specs.OfClerkSteps.Waits.{HasLine, does_wait}
-use Rattle.ec_lawful.proofs.OfClerkSteps.Still.{tries-answer}
-use Rattle.ec_lawful.proofs.OfClerkSteps.Spent.{spent-stays, IsSpent, again}
+use Rattle.ec_lawful.proofs.OfClerkSteps.ForCalls.Still.{tries-answer}
+use Rattle.ec_lawful.proofs.OfClerkSteps.ForDoings.Spent.{spent-stays, IsSpent, again}
 use Rattle.ec_coherence.specs.Answers.{Gives, op_given}
 use Rattle.ec_lawful.specs.OfClerkSteps.Answering.{Suits, answered_clerk, done_clerk}
 use Rattle.ec_lawful.specs.OfClerkSteps.AnswerLaws.{AllTriesStand, IsTried, TriesStand}

@@ -19,13 +19,13 @@ use Rattle.ec_coherence.specs.System.{System, clerk_in, is_open, seen_ops, undur
 use Rattle.ec_coherence.specs.Tokens.{IsWrite, Names, is_hidden, side, side_in, view}
 use Rattle.ec_coherence.specs.Log.{made_by}
 use Rattle.ec_coherence.specs.ChangeLaws.{IsInIt}
-use Rattle.ec_coherence.proofs.CacheChange.{suits-held}
-use Rattle.ec_coherence.proofs.ClerkIn.{owned}
-use Rattle.ec_coherence.proofs.Ids.{in-front}
-use Rattle.ec_coherence.proofs.Lists.{each-at, each-member, either_way}
-use Rattle.ec_coherence.proofs.OpenSlots.{open-at}
-use Rattle.ec_coherence.proofs.SendClaim.{held-names}
-use Rattle.ec_coherence.proofs.Tables.{same_some}
+use Rattle.ec_coherence.proofs.ForClerk.CacheChange.{suits-held}
+use Rattle.ec_coherence.proofs.ForBatches.ClerkIn.{owned}
+use Rattle.ec_coherence.proofs.ForBatches.Ids.{in-front}
+use Rattle.ec_coherence.proofs.ForServer.Lists.{each-at, each-member, either_way}
+use Rattle.ec_coherence.proofs.ForBatches.OpenSlots.{open-at}
+use Rattle.ec_coherence.proofs.ForClerk.SendClaim.{held-names}
+use Rattle.ec_coherence.proofs.ForServer.Tables.{same_some}
 use Rattle.ec_coherence.specs.CommitLaws.{AllAgree}
 use Rattle.ec_lawful.specs.OfClerkSteps.Frees.{FreesAgree}
 use Rattle.ec_lawful.specs.OfClerkSteps.Zeros.{LeaveOut}

@@ -21,22 +21,22 @@ use Rattle.ec_history.specs.declared.shown.Shown.{Shown}
 use Rattle.ec_history.specs.declared.shown.Shown.TheVariants.{Answered}
 use Rattle.ec_history.specs.declared.watch.Watch.{Watch}
 use Rattle.ec_wire.specs.declared.msg.Msg.{Msg}
-use Rattle.ec_history.proofs.OfLaws.Beside.{IsBeside, covers-same}
-use Rattle.ec_history.proofs.OfLaws.Cuts.{legal-split, placeable-step}
-use Rattle.ec_history.proofs.OfLaws.Held.{place-late}
-use Rattle.ec_history.proofs.OfLaws.More.{kept-step, watch-step}
-use Rattle.ec_history.proofs.OfLaws.Numbers.{each-append as each-join, each-back, each-filter, each-front}
-use Rattle.ec_history.proofs.OfLaws.Watching.{untold-runs}
+use Rattle.ec_history.proofs.OfLaws.ForPlacing.Beside.{IsBeside, covers-same}
+use Rattle.ec_history.proofs.OfLaws.ForPlacing.Cuts.{legal-split, placeable-step}
+use Rattle.ec_history.proofs.OfLaws.ForPlacing.Held.{place-late}
+use Rattle.ec_history.proofs.OfLaws.ForPlacing.More.{kept-step, watch-step}
+use Rattle.ec_history.proofs.OfLaws.ForPlacing.Numbers.{each-append as each-join, each-back, each-filter, each-front}
+use Rattle.ec_history.proofs.OfLaws.ForPlacing.Watching.{untold-runs}
 use Rattle.ec_protocol.specs.declared.clerk.Clerk.{Clerk}
 use Rattle.ec_coherence.specs.System.{System, at_session, base_of, is_of, is_open, undurable, with_start}
 use Rattle.ec_coherence.specs.Events.{CutAgrees, EventsAgree, Frees, IsUncut, same_op, shown_boot, shown_op}
 use Rattle.ec_coherence.specs.ChangeLaws.{Calls}
-use Rattle.ec_coherence.proofs.Tables.{same_some}
+use Rattle.ec_coherence.proofs.ForServer.Tables.{same_some}
 use Rattle.ec_coherence.specs.Answers.{IsAnswered, based, fresh_of}
 use Rattle.ec_coherence.specs.Comes.{begun_at, entry_next}
-use Rattle.ec_coherence.proofs.Answering.{alike, kept-now, new_fresh, old_fresh}
-use Rattle.ec_coherence.proofs.Appended.{begun-answered, still-lost}
-use Rattle.ec_coherence.proofs.Rebased.{Alike, alike-back, covers-same as covers-based, kept-same, leaves-same, legal-same, owed_from-same, throughout-map}
+use Rattle.ec_coherence.proofs.ForCommits.Answering.{alike, kept-now, new_fresh, old_fresh}
+use Rattle.ec_coherence.proofs.ForCommits.Appended.{begun-answered, still-lost}
+use Rattle.ec_coherence.proofs.ForCommits.Rebased.{Alike, alike-back, covers-same as covers-based, kept-same, leaves-same, legal-same, owed_from-same, throughout-map}
 use Rattle.ec_lawful.proofs.OfClerkSteps.Earlier as earlier
 use Rattle.ec_lawful.proofs.OfClerkSteps.Split.{apart-splits, last-same}
 use Rattle.ec_base.proofs.Numbers.{same-self as same, equal}

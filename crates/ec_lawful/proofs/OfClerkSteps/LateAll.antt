@@ -14,7 +14,7 @@ use Rattle.ec_history.specs.declared.entry.Answer.{Answer}
 use Rattle.ec_history.specs.declared.shown.Shown.{Shown}
 use Rattle.ec_history.specs.declared.shown.Shown.TheVariants.{Answered}
 use Rattle.ec_history.specs.declared.watch.Watch.{Watch}
-use Rattle.ec_history.proofs.OfLaws.More.{watch-step}
+use Rattle.ec_history.proofs.OfLaws.ForPlacing.More.{watch-step}
 use Rattle.ec_cache.specs.declared.resolve.verdict.Verdict.{Verdict}
 use Rattle.ec_protocol.specs.Clerk.{verdict}
 use Rattle.ec_protocol.specs.declared.clerk.Clerk.{Clerk}
@@ -24,7 +24,7 @@ use Rattle.ec_coherence.specs.Log.{IsNumbered, next_of}
 use Rattle.ec_coherence.specs.Steps.{calls_after, doing_in}
 use Rattle.ec_coherence.specs.Events.{CutAgrees}
 use Rattle.ec_coherence.specs.ChangeLaws.{Calls}
-use Rattle.ec_coherence.proofs.Tables.{by-session, each-map, same_some}
+use Rattle.ec_coherence.proofs.ForServer.Tables.{by-session, each-map, same_some}
 use Rattle.ec_coherence.specs.CommitLaws.{AllAgree}
 use Rattle.ec_coherence.specs.Watches.{WatchAgrees, WatchesAgree}
 use Rattle.ec_coherence.specs.Answers.{Gives, fresh_of, op_given}

@@ -15,8 +15,8 @@ use Rattle.ec_history.specs.declared.entry.Answer.{Answer}
 use Rattle.ec_history.specs.declared.entry.Entry.{Entry}
 use Rattle.ec_history.specs.declared.entry.Entry.TheVariants as entry
 use Rattle.ec_history.specs.declared.shown.Shown.TheVariants.{Answered}
-use Rattle.ec_history.proofs.OfLaws.Cuts.{legal-split}
-use Rattle.ec_history.proofs.OfLaws.Numbers.{each-front}
+use Rattle.ec_history.proofs.OfLaws.ForPlacing.Cuts.{legal-split}
+use Rattle.ec_history.proofs.OfLaws.ForPlacing.Numbers.{each-front}
 use Rattle.ec_machine_laws.proofs.Holding.{holds-kept}
 use Rattle.ec_cache.specs.declared.resolve.verdict.Verdict.{Verdict}
 use Rattle.ec_cache.specs.declared.resolve.verdict.Verdict.TheVariants.{Need, Lost, NeedIds, Done}
@@ -26,12 +26,12 @@ use Rattle.ec_coherence.specs.System.{System, at_session, is_of, is_open, undura
 use Rattle.ec_coherence.specs.Events.{CutAgrees, shown_boot, shown_op}
 use Rattle.ec_coherence.specs.Log.{numbered}
 use Rattle.ec_coherence.specs.CommitLaws.{AllAgree}
-use Rattle.ec_lawful.proofs.OfClerkSteps.Issued.{kept-of}
-use Rattle.ec_lawful.proofs.OfClerkSteps.Settled.{shown-issue, shown-start}
+use Rattle.ec_lawful.proofs.OfClerkSteps.ForCalls.Issued.{kept-of}
+use Rattle.ec_lawful.proofs.OfClerkSteps.ForCalls.Settled.{shown-issue, shown-start}
 use Rattle.ec_coherence.specs.Answers.{Gives, IsAnswered, IsAt, based, fresh_of, op_given}
 use Rattle.ec_coherence.specs.Comes.{begun_at, entry_next}
-use Rattle.ec_coherence.proofs.Answering.{alike, fresh-here, given-answered, given-issued, new_fresh, old_fresh}
-use Rattle.ec_coherence.proofs.Rebased.{Alike, kept-same, legal-same}
+use Rattle.ec_coherence.proofs.ForCommits.Answering.{alike, fresh-here, given-answered, given-issued, new_fresh, old_fresh}
+use Rattle.ec_coherence.proofs.ForCommits.Rebased.{Alike, kept-same, legal-same}
 use Rattle.ec_lawful.specs.OfClerkSteps.Answering.{answered_clerk}
 use Rattle.ec_lawful.proofs.OfClerkSteps.Late.{IsLate, loss_in}
 use Rattle.ec_lawful.proofs.OfClerkSteps.Turned.{named-is, next-is, same-age}

@@ -16,7 +16,7 @@ use Rattle.ec_history.specs.declared.entry.Answer.{Answer}
 use Rattle.ec_history.specs.declared.entry.Entry.{Entry}
 use Rattle.ec_history.specs.declared.shown.Shown.TheVariants.{Answered}
 use Rattle.ec_history.proofs.OfLaws.Issues.{issue-sorted}
-use Rattle.ec_history.proofs.OfLaws.More.{issued-append}
+use Rattle.ec_history.proofs.OfLaws.ForPlacing.More.{issued-append}
 use Rattle.ec_machine_laws.proofs.Holding.{holds-front, one-update}
 use Rattle.ec_cache.specs.declared.resolve.verdict.Verdict.{Verdict}
 use Rattle.ec_protocol.specs.Clerk.{first_id, verdict}
@@ -25,16 +25,16 @@ use Rattle.ec_coherence.specs.System.{System, base_of, is_of, is_open, seen_ops,
 use Rattle.ec_coherence.specs.Events.{CutAgrees, Frees, cut_in, same_op, shown_boot, shown_op}
 use Rattle.ec_coherence.specs.ChangeLaws.{IsInIt}
 use Rattle.ec_coherence.specs.Tokens.{eff, eff_hold, side, side_in, view}
-use Rattle.ec_coherence.proofs.Settled.{each-member}
-use Rattle.ec_coherence.proofs.Tables.{each-map}
+use Rattle.ec_coherence.proofs.ForServer.Settled.{each-member}
+use Rattle.ec_coherence.proofs.ForServer.Tables.{each-map}
 use Rattle.ec_coherence.specs.CommitLaws.{AllAgree}
-use Rattle.ec_lawful.proofs.OfClerkSteps.Issued.{kept-of}
+use Rattle.ec_lawful.proofs.OfClerkSteps.ForCalls.Issued.{kept-of}
 use Rattle.ec_coherence.specs.Answers.{Gives, Sees, based, fresh_of, id_of, op_given, seen_by}
 use Rattle.ec_coherence.specs.Comes.{entry_next}
-use Rattle.ec_coherence.proofs.Answering.{fresh-here, kept-now}
-use Rattle.ec_coherence.proofs.Judged.{held-token}
-use Rattle.ec_coherence.proofs.Late.{is-at-cut, late-legal, free-low}
-use Rattle.ec_coherence.proofs.Touching.{each-holds, each-passing, none-such, token-of, touched-held}
+use Rattle.ec_coherence.proofs.ForCommits.Answering.{fresh-here, kept-now}
+use Rattle.ec_coherence.proofs.ForCommits.Judged.{held-token}
+use Rattle.ec_coherence.proofs.ForCommits.Late.{is-at-cut, late-legal, free-low}
+use Rattle.ec_coherence.proofs.ForCommits.Touching.{each-holds, each-passing, none-such, token-of, touched-held}
 use Rattle.ec_lawful.specs.OfClerkSteps.Answering.{answered_clerk}
 use Rattle.ec_lawful.specs.OfClerkSteps.Frees.{FreesAgree}
 use Rattle.ec_lawful.specs.OfClerkSteps.Zeros.{LeaveOut, ZerosAgree}

@@ -22,15 +22,15 @@ use Rattle.ec_coherence.specs.Log.{LogsAgree}
 use Rattle.ec_coherence.specs.Images.{ImagesAgree}
 use Rattle.ec_coherence.specs.Steps.{doing_in}
 use Rattle.ec_coherence.specs.ChangeLaws.{Calls, IsInIt, with_answer}
-use Rattle.ec_coherence.proofs.Acting.{IsIn}
-use Rattle.ec_coherence.proofs.Answer.{goes-answer, goes-update, goes-used}
-use Rattle.ec_coherence.proofs.CacheChange.{behind-changed, behind-writes}
-use Rattle.ec_coherence.proofs.ClerkIn.{not-in-it, now-in}
-use Rattle.ec_coherence.proofs.CutOff as off
-use Rattle.ec_coherence.proofs.Goes.{Goes}
-use Rattle.ec_coherence.proofs.Issued.{image-one}
-use Rattle.ec_coherence.proofs.OnSystem.{begins, ends}
-use Rattle.ec_coherence.proofs.Tables.{differs}
+use Rattle.ec_coherence.proofs.ForClerk.Acting.{IsIn}
+use Rattle.ec_coherence.proofs.ForClerk.Answer.{goes-answer, goes-update, goes-used}
+use Rattle.ec_coherence.proofs.ForClerk.CacheChange.{behind-changed, behind-writes}
+use Rattle.ec_coherence.proofs.ForBatches.ClerkIn.{not-in-it, now-in}
+use Rattle.ec_coherence.proofs.ForBatches.CutOff as off
+use Rattle.ec_coherence.proofs.ForClerk.Goes.{Goes}
+use Rattle.ec_coherence.proofs.ForBatches.Issued.{image-one}
+use Rattle.ec_coherence.proofs.ForClerk.OnSystem.{begins, ends}
+use Rattle.ec_coherence.proofs.ForServer.Tables.{differs}
 use Rattle.ec_coherence.specs.CommitLaws.{AllAgree}
 use Rattle.ec_coherence.proofs.Doings.{begins-stand}
 use Rattle.ec_coherence.specs.Answers.{Gives, op_given}

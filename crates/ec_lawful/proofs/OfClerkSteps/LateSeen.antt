@@ -8,8 +8,8 @@ use Rattle.ec_wire.specs.declared.msg.Msg.{Msg}
 use Rattle.ec_wire.specs.declared.msg.Msg.TheVariants.{Grant, Ids}
 use Rattle.ec_cache.specs.declared.state.Held.{Held}
 use Rattle.ec_coherence.specs.Tokens.{Fits, IdsFit, InSession, IsWrite, Side, Tables, TablesAgree, TokensAgree, View, is_hidden}
-use Rattle.ec_coherence.proofs.Sides.{while-map}
-use Rattle.ec_coherence.proofs.Tables.{each-map, same_some}
+use Rattle.ec_coherence.proofs.ForClerk.Sides.{while-map}
+use Rattle.ec_coherence.proofs.ForServer.Tables.{each-map, same_some}
 use Rattle.ec_base.proofs.Options.{none_some}
 
 module _ (w : View) (s : ℕ) (k : Side) (seen : ℕ → ℕ → Image) (agree : TokensAgree w) (was : w.clerk s ≡ Some k) (changes : (t x : ℕ) → (seen t x ≡ w.seen t x) ⊎ ((t ≡ s) × IsWrite (at x k.cache.held))) where

@@ -20,21 +20,21 @@ use Rattle.ec_coherence.specs.Tokens.{Names, is_hidden, view}
 use Rattle.ec_coherence.specs.Steps.{doing_in, less_call}
 use Rattle.ec_coherence.specs.Events.{cut_in}
 use Rattle.ec_coherence.specs.ChangeLaws.{IsInIt, with_clerk}
-use Rattle.ec_coherence.proofs.ClerkIn.{now-in, start-same}
-use Rattle.ec_coherence.proofs.Tables.{same_some}
+use Rattle.ec_coherence.proofs.ForBatches.ClerkIn.{now-in, start-same}
+use Rattle.ec_coherence.proofs.ForServer.Tables.{same_some}
 use Rattle.ec_coherence.specs.CommitLaws.{AllAgree}
 use Rattle.ec_coherence.proofs.Rests.{rests-stand}
 use Rattle.ec_lawful.specs.OfClerkSteps.CallLaws.{Passes}
 use Rattle.ec_lawful.specs.OfClerkSteps.Waits.{HasLine}
-use Rattle.ec_lawful.proofs.OfClerkSteps.Follows.{follows}
-use Rattle.ec_lawful.proofs.OfClerkSteps.Settled.{late-settled}
+use Rattle.ec_lawful.proofs.OfClerkSteps.ForCalls.Follows.{follows}
+use Rattle.ec_lawful.proofs.OfClerkSteps.ForCalls.Settled.{late-settled}
 use Rattle.ec_lawful.specs.OfClerkSteps.Names.{AreOnNamed, NamesAgree}
 use Rattle.ec_lawful.specs.OfClerkSteps.Cuts.{CutsAgree, CutKnows}
 use Rattle.ec_lawful.specs.OfClerkSteps.Frames.{AnswersAs}
-use Rattle.ec_lawful.proofs.OfClerkSteps.Going.{late-keeps, plain-keeps}
+use Rattle.ec_lawful.proofs.OfClerkSteps.ForJoins.Going.{late-keeps, plain-keeps}
 use Rattle.ec_coherence.specs.Answers.{Gives, fresh_of, op_given, seen_by}
-use Rattle.ec_coherence.proofs.Answering.{fresh-gone}
-use Rattle.ec_coherence.proofs.Judged.{shows-all}
+use Rattle.ec_coherence.proofs.ForCommits.Answering.{fresh-gone}
+use Rattle.ec_coherence.proofs.ForCommits.Judged.{shows-all}
 use Rattle.ec_lawful.specs.OfClerkSteps.Answering.{Suits, answered_clerk, done_clerk}
 use Rattle.ec_lawful.specs.OfClerkSteps.Frees.{FreesAgree}
 use Rattle.ec_lawful.specs.OfClerkSteps.Trying.{IsTrying, late_ghost}

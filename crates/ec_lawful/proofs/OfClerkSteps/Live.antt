@@ -11,9 +11,9 @@ use Rattle.ec_protocol.specs.declared.clerk.Clerk.{Clerk}
 use Rattle.ec_coherence.specs.System.{System, clerk_in, is_open, seen_ops}
 use Rattle.ec_coherence.specs.Events.{IsUncut, cut_in}
 use Rattle.ec_coherence.specs.ChangeLaws.{IsInIt}
-use Rattle.ec_coherence.proofs.ClerkIn.{was-in}
-use Rattle.ec_coherence.proofs.OpenSlots.{open-at}
-use Rattle.ec_coherence.proofs.Tables.{each-map, same_some}
+use Rattle.ec_coherence.proofs.ForBatches.ClerkIn.{was-in}
+use Rattle.ec_coherence.proofs.ForBatches.OpenSlots.{open-at}
+use Rattle.ec_coherence.proofs.ForServer.Tables.{each-map, same_some}
 use Rattle.ec_coherence.specs.CommitLaws.{AllAgree}
 use Rattle.ec_coherence.specs.Answers.{IsLive, Sees, id_of}
 use Rattle.ec_coherence.specs.Comes.{DurableAreMarked}

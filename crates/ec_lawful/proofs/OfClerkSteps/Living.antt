@@ -15,17 +15,17 @@ use Rattle.ec_coherence.specs.System.{System, Ghost, clerk_in, is_open, seen_ops
 use Rattle.ec_coherence.specs.Tokens.{Names, is_hidden, view}
 use Rattle.ec_coherence.specs.Steps.{doing_in, less_call}
 use Rattle.ec_coherence.specs.ChangeLaws.{IsInIt, with_clerk}
-use Rattle.ec_coherence.proofs.ClerkIn.{now-in, start-same}
-use Rattle.ec_coherence.proofs.Tables.{same_some}
+use Rattle.ec_coherence.proofs.ForBatches.ClerkIn.{now-in, start-same}
+use Rattle.ec_coherence.proofs.ForServer.Tables.{same_some}
 use Rattle.ec_coherence.specs.CommitLaws.{AllAgree}
 use Rattle.ec_coherence.proofs.Rests.{rests-stand}
 use Rattle.ec_lawful.specs.OfClerkSteps.CallLaws.{Passes}
 use Rattle.ec_lawful.specs.OfClerkSteps.Waits.{HasLine}
-use Rattle.ec_lawful.proofs.OfClerkSteps.Follows.{follows}
-use Rattle.ec_lawful.proofs.OfClerkSteps.Settled.{settled}
+use Rattle.ec_lawful.proofs.OfClerkSteps.ForCalls.Follows.{follows}
+use Rattle.ec_lawful.proofs.OfClerkSteps.ForCalls.Settled.{settled}
 use Rattle.ec_lawful.specs.OfClerkSteps.Names.{AreOnNamed, NamesAgree}
 use Rattle.ec_lawful.specs.OfClerkSteps.Cuts.{CutsAgree}
-use Rattle.ec_lawful.proofs.OfClerkSteps.Going.{plain-keeps}
+use Rattle.ec_lawful.proofs.OfClerkSteps.ForJoins.Going.{plain-keeps}
 use Rattle.ec_coherence.specs.Answers.{Gives, answered_ghost, fresh_of, op_given}
 use Rattle.ec_lawful.specs.OfClerkSteps.Answering.{Suits}
 use Rattle.ec_lawful.specs.OfClerkSteps.Frees.{FreesAgree}

@@ -20,16 +20,16 @@ use Rattle.ec_coherence.specs.Log.{LogsAgree}
 use Rattle.ec_coherence.specs.Images.{ImagesAgree}
 use Rattle.ec_coherence.specs.Steps.{doing_in}
 use Rattle.ec_coherence.specs.ChangeLaws.{Calls, IsInIt, with_answer}
-use Rattle.ec_coherence.proofs.Acting.{IsIn}
-use Rattle.ec_coherence.proofs.Answer.{goes-answer, goes-update, goes-used}
-use Rattle.ec_coherence.proofs.Answered as answered
-use Rattle.ec_coherence.proofs.CacheChange.{at-used, behind-writes}
-use Rattle.ec_coherence.proofs.ClerkIn.{not-in-it}
-use Rattle.ec_coherence.proofs.Goes.{Goes, goes-rest}
-use Rattle.ec_coherence.proofs.HeldChange as held
-use Rattle.ec_coherence.proofs.OnSystem.{begins, ends}
-use Rattle.ec_coherence.proofs.Tables.{differs}
-use Rattle.ec_coherence.proofs.Try.{issued-goes}
+use Rattle.ec_coherence.proofs.ForClerk.Acting.{IsIn}
+use Rattle.ec_coherence.proofs.ForClerk.Answer.{goes-answer, goes-update, goes-used}
+use Rattle.ec_coherence.proofs.ForBatches.Answered as answered
+use Rattle.ec_coherence.proofs.ForClerk.CacheChange.{at-used, behind-writes}
+use Rattle.ec_coherence.proofs.ForBatches.ClerkIn.{not-in-it}
+use Rattle.ec_coherence.proofs.ForClerk.Goes.{Goes, goes-rest}
+use Rattle.ec_coherence.proofs.ForBatches.HeldChange as held
+use Rattle.ec_coherence.proofs.ForClerk.OnSystem.{begins, ends}
+use Rattle.ec_coherence.proofs.ForServer.Tables.{differs}
+use Rattle.ec_coherence.proofs.ForClerk.Try.{issued-goes}
 use Rattle.ec_coherence.specs.CommitLaws.{AllAgree}
 use Rattle.ec_coherence.proofs.Doings.{begins-stand}
 use Rattle.ec_lawful.specs.OfClerkSteps.Answering.{answering}
@@ -89,7 +89,7 @@ module _ (g : System) (all : AllAgree g) (c s : ℕ) (age : Age) (k : Clerk) (in
 
     may : held.Holds g (all.0).tokens (all.0).logs (all.0).images c s age k used is-owner at-start in-it.session in-it.session refl calls []
     may = record {
-      writes = λ o d w f. Rattle.ec_coherence.proofs.Tables.each-map (λ x. IsWrite (at x k.cache.held)) (λ x. IsWrite (at x used.cache.held)) (operands o.update) (λ x z. subst IsWrite (sym (at-used xs x k.cache)) z) f;
+      writes = λ o d w f. Rattle.ec_coherence.proofs.ForServer.Tables.each-map (λ x. IsWrite (at x k.cache.held)) (λ x. IsWrite (at x used.cache.held)) (operands o.update) (λ x z. subst IsWrite (sym (at-used xs x k.cache)) z) f;
       ids = λ j sl p q r f. record { granted = f.granted; last = f.last; distinct_ids = f.distinct_ids; free = f.free; earlier = f.earlier; all = f.all };
       rooms = λ e got j sl p q r a b i. i;
       got = λ j sl p q r a. a;

@@ -26,7 +26,7 @@ use Rattle.ec_coherence.specs.ChangeLaws.{Calls, IsInIt}
 use Rattle.ec_coherence.specs.CommitLaws.{AllAgree}
 use Rattle.ec_coherence.specs.Answers.{Gives, fresh_of, op_given}
 use Rattle.ec_coherence.specs.Comes.{after_answer}
-use Rattle.ec_coherence.proofs.Touching.{leaves-others}
+use Rattle.ec_coherence.proofs.ForCommits.Touching.{leaves-others}
 use Rattle.ec_lawful.specs.OfClerkSteps.Answering.{Suits, answered_clerk, answering, done_clerk}
 use Rattle.ec_lawful.specs.OfClerkSteps.AnswerLaws.{IsSettled}
 use Rattle.ec_lawful.specs.OfClerkSteps.Zeros.{ZerosAgree}
@@ -140,7 +140,7 @@ module _ (g : System) (all : AllAgree g) (zeros : ZerosAgree g) (c s : ℕ) (age
           least m = omega Rattle.std.proofs.Common.arith
 
   above-now : Each (λ j. g.first_boot j.clerk < j.boot) (g.ghost.kept ++ os)
-  above-now = each-append (λ j. g.first_boot j.clerk < j.boot) g.ghost.kept os (all.3).above (Rattle.ec_coherence.proofs.Tables.each-map IsNew (λ j. g.first_boot j.clerk < j.boot) os
+  above-now = each-append (λ j. g.first_boot j.clerk < j.boot) g.ghost.kept os (all.3).above (Rattle.ec_coherence.proofs.ForServer.Tables.each-map IsNew (λ j. g.first_boot j.clerk < j.boot) os
       (λ j f. subst (λ z. g.first_boot z < j.boot) (sym f.clerk) (subst (λ z. g.first_boot c < z) (sym f.boot) ((all.3).started c b k at-start))) (pending-by v))
 
   no-session : k.session ≡ None → HasNone k → HasNone now

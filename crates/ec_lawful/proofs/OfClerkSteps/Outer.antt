@@ -16,17 +16,17 @@ use Rattle.ec_coherence.specs.Tokens.{is_untaken, side_in}
 use Rattle.ec_coherence.specs.Events.{IsUncut}
 use Rattle.ec_coherence.specs.Steps.{doing_in}
 use Rattle.ec_coherence.specs.ChangeLaws.{with_clerk}
-use Rattle.ec_coherence.proofs.ClerkIn.{start-same}
+use Rattle.ec_coherence.proofs.ForBatches.ClerkIn.{start-same}
 use Rattle.ec_coherence.specs.CommitLaws.{AllAgree}
 use Rattle.ec_coherence.specs.Watches.{WatchAgrees}
 use Rattle.ec_lawful.specs.OfClerkSteps.CallLaws.{Passes}
 use Rattle.ec_lawful.specs.OfClerkSteps.Waits.{HasLine}
-use Rattle.ec_lawful.proofs.OfClerkSteps.Follows.{follows}
-use Rattle.ec_lawful.proofs.OfClerkSteps.Settled.{settled}
+use Rattle.ec_lawful.proofs.OfClerkSteps.ForCalls.Follows.{follows}
+use Rattle.ec_lawful.proofs.OfClerkSteps.ForCalls.Settled.{settled}
 use Rattle.ec_lawful.specs.OfClerkSteps.Names.{AreOnNamed, NamesAgree}
 use Rattle.ec_lawful.specs.OfClerkSteps.Cuts.{CutsAgree}
-use Rattle.ec_lawful.proofs.OfClerkSteps.Going.{plain-keeps}
-use Rattle.ec_lawful.proofs.OfClerkSteps.OutsideChanges.{outside-all}
+use Rattle.ec_lawful.proofs.OfClerkSteps.ForJoins.Going.{plain-keeps}
+use Rattle.ec_lawful.proofs.OfClerkSteps.ForJoins.OutsideChanges.{outside-all}
 use Rattle.ec_coherence.specs.Answers.{Gives, IsLive, Sees, answered_ghost, fresh_of, op_given}
 use Rattle.ec_lawful.specs.OfClerkSteps.Answering.{Suits}
 use Rattle.ec_lawful.specs.OfClerkSteps.Frees.{FreesAgree}

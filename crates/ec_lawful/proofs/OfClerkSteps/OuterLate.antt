@@ -11,8 +11,8 @@ use Rattle.ec_history.specs.declared.entry.Answer.{Answer}
 use Rattle.ec_history.specs.declared.entry.Entry.{Entry}
 use Rattle.ec_history.specs.declared.entry.Entry.TheVariants as entry
 use Rattle.ec_history.specs.declared.shown.Shown.TheVariants.{Answered}
-use Rattle.ec_history.proofs.OfLaws.Inserted.{insertion}
-use Rattle.ec_history.proofs.OfLaws.Numbers.{each-front}
+use Rattle.ec_history.proofs.OfLaws.ForPlacing.Inserted.{insertion}
+use Rattle.ec_history.proofs.OfLaws.ForPlacing.Numbers.{each-front}
 use Rattle.ec_cache.specs.OfResolve.Agreement.{Shows}
 use Rattle.ec_cache.specs.declared.resolve.verdict.Verdict.{Verdict}
 use Rattle.ec_protocol.specs.Clerk.{Doing, first_id, verdict}
@@ -23,23 +23,23 @@ use Rattle.ec_coherence.specs.Sessions.{HasNone}
 use Rattle.ec_coherence.specs.Steps.{doing_in}
 use Rattle.ec_coherence.specs.Events.{CutAgrees, shown_boot, shown_op}
 use Rattle.ec_coherence.specs.ChangeLaws.{with_clerk}
-use Rattle.ec_coherence.proofs.ClerkIn.{start-same}
-use Rattle.ec_coherence.proofs.Tables.{same_some}
+use Rattle.ec_coherence.proofs.ForBatches.ClerkIn.{start-same}
+use Rattle.ec_coherence.proofs.ForServer.Tables.{same_some}
 use Rattle.ec_coherence.specs.CommitLaws.{AllAgree}
 use Rattle.ec_lawful.specs.OfClerkSteps.CallLaws.{Passes}
 use Rattle.ec_lawful.specs.OfClerkSteps.Waits.{HasLine}
-use Rattle.ec_lawful.proofs.OfClerkSteps.Follows.{follows}
-use Rattle.ec_lawful.proofs.OfClerkSteps.Settled.{late-settled}
+use Rattle.ec_lawful.proofs.OfClerkSteps.ForCalls.Follows.{follows}
+use Rattle.ec_lawful.proofs.OfClerkSteps.ForCalls.Settled.{late-settled}
 use Rattle.ec_lawful.specs.OfClerkSteps.Names.{NamesAgree}
 use Rattle.ec_lawful.specs.OfClerkSteps.Cuts.{CutKnows, CutsAgree}
-use Rattle.ec_lawful.proofs.OfClerkSteps.Going.{plain-keeps}
-use Rattle.ec_lawful.proofs.OfClerkSteps.OutsideChanges.{outside-all}
+use Rattle.ec_lawful.proofs.OfClerkSteps.ForJoins.Going.{plain-keeps}
+use Rattle.ec_lawful.proofs.OfClerkSteps.ForJoins.OutsideChanges.{outside-all}
 use Rattle.ec_coherence.specs.Answers.{Gives, IsAt, based, fresh_of, op_given}
 use Rattle.ec_coherence.specs.Comes.{begun_at, entry_next}
-use Rattle.ec_coherence.proofs.Answering.{fresh-here, new_fresh, old_fresh}
-use Rattle.ec_coherence.proofs.Judged.{shows-all}
-use Rattle.ec_coherence.proofs.Rebased.{Alike, owed_from-same}
-use Rattle.ec_coherence.proofs.Touching.{each-holds, each-passing, none-such, touched-held}
+use Rattle.ec_coherence.proofs.ForCommits.Answering.{fresh-here, new_fresh, old_fresh}
+use Rattle.ec_coherence.proofs.ForCommits.Judged.{shows-all}
+use Rattle.ec_coherence.proofs.ForCommits.Rebased.{Alike, owed_from-same}
+use Rattle.ec_coherence.proofs.ForCommits.Touching.{each-holds, each-passing, none-such, touched-held}
 use Rattle.ec_lawful.specs.OfClerkSteps.Answering.{Suits, answered_clerk}
 use Rattle.ec_lawful.specs.OfClerkSteps.Frees.{FreesAgree}
 use Rattle.ec_lawful.specs.OfClerkSteps.Trying.{IsTrying, late_ghost}

@@ -30,8 +30,8 @@ use Rattle.ec_coherence.specs.Log.{HasWrites, IsNumbered, LogsAgree, next_of}
 use Rattle.ec_coherence.specs.Images.{ImagesAgree}
 use Rattle.ec_coherence.specs.Invariant.{Invariant}
 use Rattle.ec_coherence.specs.ChangeLaws.{Calls}
-use Rattle.ec_coherence.proofs.Lists.{each-more, each-turn}
-use Rattle.ec_coherence.proofs.Judged.{held-token}
+use Rattle.ec_coherence.proofs.ForServer.Lists.{each-more, each-turn}
+use Rattle.ec_coherence.proofs.ForCommits.Judged.{held-token}
 use Rattle.ec_coherence.specs.Answers.{Gives, op_given}
 use Rattle.ec_lawful.specs.OfClerkSteps.Answering.{Suits, answered_clerk, done_clerk}
 use Rattle.ec_lawful.proofs.OfClerkSteps.NodesAnswered.{NodesAgree}

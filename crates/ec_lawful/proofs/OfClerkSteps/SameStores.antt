@@ -14,9 +14,9 @@ use Rattle.ec_protocol.specs.declared.clerk.Clerk.{Clerk}
 use Rattle.ec_coherence.specs.System.{System, clerk_in, seen_ops, with_start}
 use Rattle.ec_coherence.specs.Tokens.{Names, in_sixteen, is_hidden, is_untaken, side_in, view}
 use Rattle.ec_coherence.specs.ChangeLaws.{Calls}
-use Rattle.ec_coherence.proofs.ClerkIn.{now-in, other-in, was-in}
-use Rattle.ec_coherence.proofs.Lists.{each-at, each-member, each-turn}
-use Rattle.ec_coherence.proofs.Tables.{same_some}
+use Rattle.ec_coherence.proofs.ForBatches.ClerkIn.{now-in, other-in, was-in}
+use Rattle.ec_coherence.proofs.ForServer.Lists.{each-at, each-member, each-turn}
+use Rattle.ec_coherence.proofs.ForServer.Tables.{same_some}
 use Rattle.ec_lawful.specs.OfClerkSteps.Names.{AreOnNamed, NamesAgree}
 use Rattle.ec_lawful.specs.OfClerkSteps.Frees.{FreesAgree}
 use Rattle.ec_lawful.specs.OfClerkSteps.Zeros.{LeaveOut}

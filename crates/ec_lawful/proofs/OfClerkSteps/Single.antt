@@ -15,13 +15,13 @@ use Rattle.ec_protocol.specs.declared.clerk.Waiting.{Waiting}
 use Rattle.ec_coherence.specs.System.{System, Ghost}
 use Rattle.ec_coherence.specs.Events.{EventsAgree}
 use Rattle.ec_coherence.specs.Steps.{call_of, doing_in}
-use Rattle.ec_coherence.proofs.ClerkIn.{start-same}
+use Rattle.ec_coherence.proofs.ForBatches.ClerkIn.{start-same}
 use Rattle.ec_coherence.specs.CommitLaws.{AllAgree}
 use Rattle.ec_coherence.specs.StandLaws.{ClerkStands}
 use Rattle.ec_lawful.specs.OfClerkSteps.Calls.{CallsAgree, StartCalls}
 use Rattle.ec_lawful.specs.OfClerkSteps.CallLaws.{IsWaiting}
 use Rattle.ec_lawful.specs.OfClerkSteps.Waits.{HasLine, does_wait}
-use Rattle.ec_lawful.proofs.OfClerkSteps.CallsLeft.{left-calls, left-lines}
+use Rattle.ec_lawful.proofs.OfClerkSteps.ForCalls.CallsLeft.{left-calls, left-lines}
 use Rattle.ec_lawful.specs.OfClerkSteps.Names.{NamesAgree}
 use Rattle.ec_lawful.specs.OfClerkSteps.Cuts.{CutsAgree}
 use Rattle.ec_coherence.specs.Answers.{Gives, op_given}

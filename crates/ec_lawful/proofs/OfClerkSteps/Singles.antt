@@ -13,16 +13,16 @@ use Rattle.ec_protocol.specs.declared.clerk.Out.TheVariants as out
 use Rattle.ec_protocol.specs.declared.clerk.Waiting.{Waiting}
 use Rattle.ec_coherence.specs.System.{System, Ghost}
 use Rattle.ec_coherence.specs.Steps.{doing_in}
-use Rattle.ec_coherence.proofs.ClerkIn.{start-same}
-use Rattle.ec_coherence.proofs.Settling.{Keeping, all-keeps}
-use Rattle.ec_coherence.proofs.Try.{OnTried}
-use Rattle.ec_coherence.proofs.TriedList.{same-verdict}
-use Rattle.ec_coherence.proofs.Tables.{same_some, some-of}
+use Rattle.ec_coherence.proofs.ForBatches.ClerkIn.{start-same}
+use Rattle.ec_coherence.proofs.ForClerk.Settling.{Keeping, all-keeps}
+use Rattle.ec_coherence.proofs.ForClerk.Try.{OnTried}
+use Rattle.ec_coherence.proofs.ForClerk.TriedList.{same-verdict}
+use Rattle.ec_coherence.proofs.ForServer.Tables.{same_some, some-of}
 use Rattle.ec_coherence.specs.CommitLaws.{AllAgree}
 use Rattle.ec_lawful.specs.OfClerkSteps.CallLaws.{IsStillIf, Passes}
 use Rattle.ec_lawful.specs.OfClerkSteps.Waits.{HasLine}
-use Rattle.ec_lawful.proofs.OfClerkSteps.Quiet.{quiet-lines}
-use Rattle.ec_lawful.proofs.OfClerkSteps.Still.{tries-answer}
+use Rattle.ec_lawful.proofs.OfClerkSteps.ForCalls.Quiet.{quiet-lines}
+use Rattle.ec_lawful.proofs.OfClerkSteps.ForCalls.Still.{tries-answer}
 use Rattle.ec_coherence.specs.Answers.{Gives, answered_ghost, fresh_of, op_given}
 use Rattle.ec_lawful.specs.OfClerkSteps.Answering.{Suits, answered_clerk}
 use Rattle.ec_lawful.specs.OfClerkSteps.AnswerLaws.{AllTriesStand, AreLined, GoesOnWith, IsTried, OneCarries, TriesCarry, TriesStand, answered_so}

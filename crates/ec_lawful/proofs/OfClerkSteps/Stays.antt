@@ -24,21 +24,21 @@ use Rattle.ec_coherence.specs.System.{System, Ghost, with_start}
 use Rattle.ec_coherence.specs.Sessions.{HasNone}
 use Rattle.ec_coherence.specs.Tokens.{Names, view}
 use Rattle.ec_coherence.specs.Steps.{call_of, doing_in}
-use Rattle.ec_coherence.proofs.ClerkIn.{start-same}
-use Rattle.ec_coherence.proofs.Lists.{each-turn}
+use Rattle.ec_coherence.proofs.ForBatches.ClerkIn.{start-same}
+use Rattle.ec_coherence.proofs.ForServer.Lists.{each-turn}
 use Rattle.ec_coherence.specs.StandLaws.{IsUnderWay}
 use Rattle.ec_lawful.specs.OfClerkSteps.CallLaws.{IsStill}
 use Rattle.ec_lawful.specs.OfClerkSteps.Waits.{HasLine, does_wait}
-use Rattle.ec_lawful.proofs.OfClerkSteps.Quiet.{quiet-calls, quiet-lines, split-start}
-use Rattle.ec_lawful.proofs.OfClerkSteps.Still.{still-ask, still-room, still-waits, still-want}
+use Rattle.ec_lawful.proofs.OfClerkSteps.ForCalls.Quiet.{quiet-calls, quiet-lines, split-start}
+use Rattle.ec_lawful.proofs.OfClerkSteps.ForCalls.Still.{still-ask, still-room, still-waits, still-want}
 use Rattle.ec_lawful.specs.OfClerkSteps.DoingLaws.{IsInHand}
-use Rattle.ec_lawful.proofs.OfClerkSteps.Hand as hand
-use Rattle.ec_lawful.proofs.OfClerkSteps.Moving as moving
-use Rattle.ec_lawful.proofs.OfClerkSteps.Naming.{needs-named}
-use Rattle.ec_lawful.proofs.OfClerkSteps.Order.{ids-are-out}
+use Rattle.ec_lawful.proofs.OfClerkSteps.ForDoings.Hand as hand
+use Rattle.ec_lawful.proofs.OfClerkSteps.ForDoings.Moving as moving
+use Rattle.ec_lawful.proofs.OfClerkSteps.ForDoings.Naming.{needs-named}
+use Rattle.ec_lawful.proofs.OfClerkSteps.ForDoings.Order.{ids-are-out}
 use Rattle.ec_lawful.specs.OfClerkSteps.Frames.{IsCalm}
-use Rattle.ec_lawful.proofs.OfClerkSteps.Calm.{are-calm}
-use Rattle.ec_lawful.proofs.OfClerkSteps.Going.{calm-keeps}
+use Rattle.ec_lawful.proofs.OfClerkSteps.ForJoins.Calm.{are-calm}
+use Rattle.ec_lawful.proofs.OfClerkSteps.ForJoins.Going.{calm-keeps}
 use Rattle.ec_lawful.specs.OfClerkSteps.Frees.{FreesAgree}
 use Rattle.ec_lawful.specs.OfClerkSteps.Trying.{IsTrying}
 use Rattle.ec_lawful.specs.OfClerkSteps.Zeros.{HasNoZero, ZerosAgree}
@@ -62,7 +62,7 @@ module _ (g : System) (c b : ℕ) (d : Doing) (γ : Ghost) (t : IsTrying g c b d
       frozen = (t.zeros).frozen;
       next = (t.zeros).next;
       first = (t.zeros).first;
-      clerks = λ f a m q. split-start c b f a m e.clerk g.clerks (λ x y z. HasNoZero z) q own (λ n p. (t.zeros).clerks f a m (Rattle.ec_lawful.proofs.OfClerkSteps.Quiet.other-start c b f a d.clerk g.clerks n ∙ p));
+      clerks = λ f a m q. split-start c b f a m e.clerk g.clerks (λ x y z. HasNoZero z) q own (λ n p. (t.zeros).clerks f a m (Rattle.ec_lawful.proofs.OfClerkSteps.ForCalls.Quiet.other-start c b f a d.clerk g.clerks n ∙ p));
     }
       where
         own : HasNoZero e.clerk

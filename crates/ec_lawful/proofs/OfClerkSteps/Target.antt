@@ -12,7 +12,7 @@ use Rattle.ec_protocol.specs.declared.clerk.Out.TheVariants as out
 use Rattle.ec_coherence.specs.System.{System, Ghost, with_start}
 use Rattle.ec_coherence.specs.ChangeLaws.{Calls}
 use Rattle.ec_coherence.specs.Steps.{call_of, calls_after, doing_in, less_call, out_lines, sends}
-use Rattle.ec_coherence.proofs.Acting.{sends-more}
+use Rattle.ec_coherence.proofs.ForClerk.Acting.{sends-more}
 use Rattle.ec_lawful.specs.OfClerkSteps.CallLaws.{with_change}
 
 -- What comes out joins.

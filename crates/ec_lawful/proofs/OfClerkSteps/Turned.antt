@@ -27,7 +27,7 @@ use Rattle.ec_cache.proofs.OfResolve.Verdicts.{done-ready, done-says}
 use Rattle.ec_protocol.specs.Clerk.{first_id, verdict}
 use Rattle.ec_protocol.specs.declared.clerk.Clerk.{Clerk}
 use Rattle.ec_coherence.specs.Tokens.{IsWrite}
-use Rattle.ec_coherence.proofs.Needs.{holds-write}
+use Rattle.ec_coherence.proofs.ForCommits.Needs.{holds-write}
 use Rattle.ec_coherence.specs.Answers.{Gives, op_given}
 use Rattle.ec_lawful.specs.OfClerkSteps.Answering.{answered_clerk, done_clerk}
 use Rattle.ec_lawful.proofs.OfClerkSteps.Refusing.{plain-fair}

@@ -13,9 +13,9 @@ use Rattle.ec_volume.specs.declared.update.Update.TheVariants.{Make, Drop, Move,
 use Rattle.ec_order.specs.Order.{is_overwrite, needs, share, under}
 use Rattle.ec_history.specs.History.{Each, Op, updates}
 use Rattle.ec_history.specs.OfLaws.Needs.{holds_needed}
-use Rattle.ec_history.proofs.OfLaws.Objects.{common}
+use Rattle.ec_history.proofs.OfLaws.ForPlacing.Objects.{common}
 use Rattle.ec_durable.specs.Durable.{made}
-use Rattle.ec_coherence.proofs.Lists.{filter-no, filter-yes, or_else}
+use Rattle.ec_coherence.proofs.ForServer.Lists.{filter-no, filter-yes, or_else}
 use Rattle.ec_base.proofs.Bools.{left as and_first, not-both as no_both, or-right as or_next, right as and_next, or_first, is-true}
 
 -- What fits an object that is gone makes it.

@@ -14,18 +14,18 @@ use Rattle.ec_volume.specs.Volume.{after as images_after}
 use Rattle.std.specs.Prelude.{if◌then◌else◌, is_some}
 use Rattle.ec_history.specs.declared.entry.Answer.{Answer}
 use Rattle.ec_history.specs.declared.entry.Entry.TheVariants as entry
-use Rattle.ec_history.proofs.OfLaws.Cuts.{legal-split}
-use Rattle.ec_history.proofs.OfLaws.Numbers.{kept-up_to}
+use Rattle.ec_history.proofs.OfLaws.ForPlacing.Cuts.{legal-split}
+use Rattle.ec_history.proofs.OfLaws.ForPlacing.Numbers.{kept-up_to}
 use Rattle.ec_cache.specs.declared.resolve.verdict.Verdict.{Verdict}
 use Rattle.ec_cache.specs.declared.resolve.verdict.Verdict.TheVariants.{Need, Lost, NeedIds, Done}
 use Rattle.ec_protocol.specs.Clerk.{Doing, verdict}
 use Rattle.ec_protocol.specs.declared.clerk.Clerk.{Clerk}
 use Rattle.ec_coherence.specs.System.{System, base_of, is_open, seen_ops, undurable}
 use Rattle.ec_coherence.specs.Events.{CutAgrees, EventsAgree, IsUncut, cut_in, same_op, shown_boot, shown_op}
-use Rattle.ec_coherence.proofs.Tables.{each-map, same_some}
+use Rattle.ec_coherence.proofs.ForServer.Tables.{each-map, same_some}
 use Rattle.ec_coherence.specs.Answers.{Gives, IsLive, Sees, based, fresh_of, op_given, seen_by}
 use Rattle.ec_coherence.specs.Comes.{after_answer, entry_next}
-use Rattle.ec_coherence.proofs.Appended.{answer-keeps}
+use Rattle.ec_coherence.proofs.ForCommits.Appended.{answer-keeps}
 use Rattle.ec_base.proofs.Numbers.{same-self as same, equal}
 use Rattle.ec_base.proofs.Options.{none_some}
 use Rattle.ec_base.proofs.Bools.{and-both as and_both, is-true}

@@ -16,7 +16,7 @@ use Rattle.ec_history.specs.declared.shown.Shown.{Shown}
 use Rattle.ec_history.specs.declared.shown.Shown.TheVariants.{Answered}
 use Rattle.ec_plain.specs.declared.call.Call.{Call}
 use Rattle.ec_base.specs.Tables.{Table}
-use Rattle.ec_history.proofs.OfLaws.More.{watch-step}
+use Rattle.ec_history.proofs.OfLaws.ForPlacing.More.{watch-step}
 use Rattle.ec_wire.specs.declared.msg.Msg.{Msg}
 use Rattle.ec_protocol.specs.declared.clerk.Clerk.{Clerk}
 use Rattle.ec_coherence.specs.ChangeLaws.{Calls}
@@ -26,7 +26,7 @@ use Rattle.ec_sessions.specs.declared.slot.Slot.{Slot}
 use Rattle.ec_durable.specs.Durable.{slot}
 use Rattle.ec_coherence.specs.System.{System, Ghost, is_of, undurable}
 use Rattle.ec_coherence.specs.Events.{shown_boot}
-use Rattle.ec_coherence.proofs.Tables.{by-session, each-map, same_some}
+use Rattle.ec_coherence.proofs.ForServer.Tables.{by-session, each-map, same_some}
 use Rattle.ec_coherence.specs.Watches.{WatchAgrees, WatchesAgree, still_in}
 use Rattle.ec_base.proofs.Numbers.{same-self as same}
 use Rattle.ec_base.proofs.Options.{none_some}

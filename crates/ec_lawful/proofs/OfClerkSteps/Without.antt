@@ -25,8 +25,8 @@ use Rattle.ec_coherence.specs.Starts.{StartsAgree}
 use Rattle.ec_coherence.specs.Watches.{FirstsAgree}
 use Rattle.ec_coherence.specs.Answers.{Gives, IsLive, Sees, based, fresh_of, op_given}
 use Rattle.ec_coherence.specs.Comes.{after_answer, entry_next}
-use Rattle.ec_coherence.proofs.Answering.{fresh-here, is-at, kept-now}
-use Rattle.ec_coherence.proofs.Touching.{each-holds, each-passing, none-such, touched-held}
+use Rattle.ec_coherence.proofs.ForCommits.Answering.{fresh-here, is-at, kept-now}
+use Rattle.ec_coherence.proofs.ForCommits.Touching.{each-holds, each-passing, none-such, touched-held}
 use Rattle.ec_lawful.specs.OfClerkSteps.Answering.{Suits, answered_clerk, answering}
 use Rattle.ec_lawful.specs.OfClerkSteps.AnswerLaws.{IsBegun, IsSettled}
 use Rattle.ec_lawful.specs.OfClerkSteps.Zeros.{LeaveOut, ZerosAgree}

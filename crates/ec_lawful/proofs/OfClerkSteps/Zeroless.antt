@@ -18,9 +18,9 @@ use Rattle.ec_cache.specs.declared.resolve.verdict.Verdict.TheVariants.{Need, Lo
 use Rattle.ec_cache.specs.declared.state.Held.{Held}
 use Rattle.ec_protocol.specs.Clerk.{first_id, less_id, suits, verdict}
 use Rattle.ec_protocol.specs.declared.clerk.Clerk.{Clerk}
-use Rattle.ec_coherence.proofs.CacheChange.{suits-held}
-use Rattle.ec_coherence.proofs.Lists.{either_way}
-use Rattle.ec_coherence.proofs.Tables.{same_some}
+use Rattle.ec_coherence.proofs.ForClerk.CacheChange.{suits-held}
+use Rattle.ec_coherence.proofs.ForServer.Lists.{either_way}
+use Rattle.ec_coherence.proofs.ForServer.Tables.{same_some}
 use Rattle.ec_coherence.specs.Answers.{IsUnowed, op_given}
 use Rattle.ec_lawful.specs.OfClerkSteps.Answering.{Suits, answered_clerk, done_clerk}
 use Rattle.ec_lawful.specs.OfClerkSteps.Zeros.{HasNoZero, LeaveOut}

@@ -31,20 +31,20 @@ use Rattle.ec_protocol.specs.declared.world.WorldFault.TheVariants as fault
 use Rattle.ec_coherence.specs.System.{System}
 use Rattle.ec_coherence.specs.Steps.{Committed, Stands}
 use Rattle.ec_coherence.specs.Makes.{IsMade}
-use Rattle.ec_coherence.proofs.Needs.{each-of}
+use Rattle.ec_coherence.proofs.ForCommits.Needs.{each-of}
 use Rattle.ec_coherence.proofs.TakesMaking.{end-stands, takes-any}
-use Rattle.ec_lawful.proofs.OfClerkSteps.Steps.{epoch-own}
+use Rattle.ec_lawful.proofs.OfClerkSteps.ForJoins.Steps.{epoch-own}
 use Rattle.ec_lawful.specs.Asked.{IsNoBye}
 use Rattle.ec_lawful.specs.AskedLaws.{StandsAsked}
 use Rattle.ec_lawful.specs.Steps.{HoldsIn}
-use Rattle.ec_lawful.proofs.Outs.{came-out}
-use Rattle.ec_lawful.proofs.Pool.{Sends, sends-all}
-use Rattle.ec_lawful.proofs.Unended.{EndsNone, EndsOne, end-ends-one, take-ends-none}
+use Rattle.ec_lawful.proofs.ForWhole.Outs.{came-out}
+use Rattle.ec_lawful.proofs.ForWhole.Pool.{Sends, sends-all}
+use Rattle.ec_lawful.proofs.ForAsked.Unended.{EndsNone, EndsOne, end-ends-one, take-ends-none}
 use Rattle.ec_lease_machine.specs.World.{resume, resume_on}
 use Rattle.ec_lease_machine.specs.OfLeaseLaws.Slots.{EndsOf, SlotsGo}
 use Rattle.ec_lease_machine.proofs.OfLeaseLaws.RecordSlots.{EndsWithin, record-goes, same-slots}
 use Rattle.ec_base.proofs.Options.{none_some}
-use Rattle.ec_lawful.proofs.ServingAsks.{tells-all}
+use Rattle.ec_lawful.proofs.ForAsked.ServingAsks.{tells-all}
 
 -- The clerks' steps leave the disk.
 

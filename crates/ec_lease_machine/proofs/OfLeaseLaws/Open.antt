@@ -20,8 +20,8 @@ use Rattle.ec_protocol.specs.declared.clerk.Clerk.{Clerk}
 use Rattle.ec_coherence.specs.System.{System}
 use Rattle.ec_coherence.specs.Sessions as sessions
 use Rattle.ec_coherence.specs.CommitLaws.{AllAgree}
-use Rattle.ec_coherence.proofs.Needs.{each-of}
-use Rattle.ec_coherence.proofs.OpenSlots.{at-open}
+use Rattle.ec_coherence.proofs.ForCommits.Needs.{each-of}
+use Rattle.ec_coherence.proofs.ForBatches.OpenSlots.{at-open}
 use Rattle.ec_lawful.specs.Doubts.{ComesFrom}
 use Rattle.ec_lease_machine.specs.OfLeaseLaws.Timely.{EndsNot, HasSession}
 use Rattle.ec_base.proofs.Numbers.{equal}

@@ -27,7 +27,7 @@ use Rattle.ec_cache.proofs.OfResolve.Verdicts.{done-ready, done-says}
 use Rattle.ec_protocol.specs.Clerk.{first_id, verdict}
 use Rattle.ec_coherence.specs.Answers.{Gives}
 use Rattle.ec_lawful.proofs.OfClerkSteps.OutsideAnswers.{reads-none}
-use Rattle.ec_lawful.proofs.OfClerkSteps.Sessionless.{outside-shows-none}
+use Rattle.ec_lawful.proofs.OfClerkSteps.ForCalls.Sessionless.{outside-shows-none}
 use Rattle.ec_lease_machine.specs.OfLeaseLaws.Outside.{OutsideAreBare}
 use Rattle.ec_lawful.proofs.OfClerkSteps.Alone.{no-members}
 use Rattle.ec_lawful.proofs.OfClerkSteps.Rootless.{some-touched}

@@ -17,7 +17,7 @@ use Rattle.ec_durable.specs.declared.record.RecordFault.TheVariants as fault
 use Rattle.ec_durable.proofs.Batches.{same_Ok, not_Ok}
 use Rattle.ec_machine_laws.specs.Records.{IsRestOf}
 use Rattle.ec_machine_laws.proofs.Recording.{batch-own, batch-rest, batch-session, ids-own, ids-rest, ids-session, open-own, open-rest, open-session}
-use Rattle.ec_coherence.proofs.Tables.{same_some}
+use Rattle.ec_coherence.proofs.ForServer.Tables.{same_some}
 use Rattle.ec_lease_machine.specs.OfLeaseLaws.Slots.{Became, SlotsGo, was, opened, ended}
 use Rattle.ec_base.proofs.Numbers.{equal}
 use Rattle.ec_lease_machine.proofs.OfLeaseLaws.Open.{is-ok, refused}

@@ -5,10 +5,10 @@ use Rattle.ec_protocol.specs.Clerk.{Answered, Doing, Tried, Waits, evict, try, t
 use Rattle.ec_protocol.specs.declared.clerk.Waiting.{Waiting}
 use Rattle.ec_lawful.specs.OfClerkSteps.CallLaws.{IsStill, IsStillIf, is_answer, prepared}
 use Rattle.ec_lawful.specs.OfClerkSteps.Waits.{does_wait}
-use Rattle.ec_lawful.proofs.OfClerkSteps.Quiets.{quiet-evict}
-use Rattle.ec_lawful.proofs.OfClerkSteps.Still.{begins-still, quiet-then, still-same, still-then, still-waits, tries-answer}
+use Rattle.ec_lawful.proofs.OfClerkSteps.ForCalls.Quiets.{quiet-evict}
+use Rattle.ec_lawful.proofs.OfClerkSteps.ForCalls.Still.{begins-still, quiet-then, still-same, still-then, still-waits, tries-answer}
 use Rattle.ec_lease_machine.specs.OfLeaseLaws.Resting.{RestingIsQuiet}
-use Rattle.ec_history.proofs.OfLaws.BasesAlike.{each-map}
+use Rattle.ec_history.proofs.OfLaws.ForPlacing.BasesAlike.{each-map}
 
 abbrev AllWait : Doing → List Waiting → Type 0
 AllWait d ws = Each (λ w. T (does_wait w d.clerk)) ws

@@ -18,9 +18,9 @@ use Rattle.ec_protocol.specs.declared.world.WorldFault.TheVariants.{Spent}
 use Rattle.ec_history.specs.declared.shown.Shown.TheVariants.{Started}
 use Rattle.ec_durable.specs.declared.record.Record.TheVariants.{Epoch}
 use Rattle.ec_base.specs.declared.counter.Counter.{Counter}
-use Rattle.ec_lawful.proofs.Pool.{sends-all}
+use Rattle.ec_lawful.proofs.ForWhole.Pool.{sends-all}
 use Rattle.ec_coherence.specs.Stops.{RunsOn}
-use Rattle.ec_coherence.proofs.Tables.{same_some}
+use Rattle.ec_coherence.proofs.ForServer.Tables.{same_some}
 use Rattle.ec_lawful.specs.AskedLaws.{StandsAsked}
 use Rattle.ec_lawful.specs.Steps.{HoldsIn}
 use Rattle.ec_lease_machine.specs.World.{open_in, open_session, resume, session, wait}

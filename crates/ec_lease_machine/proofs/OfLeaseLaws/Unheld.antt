@@ -14,7 +14,7 @@ use Rattle.ec_coherence.specs.System.{System}
 use Rattle.ec_coherence.specs.Steps.{Stands, found}
 use Rattle.ec_coherence.specs.CommitLaws.{AllAgree}
 use Rattle.ec_coherence.specs.Stops.{MayStep}
-use Rattle.ec_coherence.proofs.Tables.{same_some}
+use Rattle.ec_coherence.proofs.ForServer.Tables.{same_some}
 use Rattle.ec_lawful.specs.Doubts.{ComesFromAny, DoubtAgrees}
 use Rattle.ec_lease_machine.specs.Leases.{has_run_out, is_held, moment_in, skew}
 use Rattle.ec_lease_machine.specs.World.{session}

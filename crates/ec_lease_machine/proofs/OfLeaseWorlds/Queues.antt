@@ -15,9 +15,9 @@ use Rattle.ec_protocol.specs.World.{Moving}
 use Rattle.ec_protocol.specs.declared.world.Event.{Event}
 use Rattle.ec_protocol.specs.declared.world.Event.TheVariants as of_world
 use Rattle.ec_protocol.specs.declared.world.World.{World}
-use Rattle.ec_coherence.proofs.Needs.{each-of}
-use Rattle.ec_coherence.proofs.Tables.{at-put, at-without}
-use Rattle.ec_lawful.proofs.OfClerkSteps.CallFrames.{lines-append}
+use Rattle.ec_coherence.proofs.ForCommits.Needs.{each-of}
+use Rattle.ec_coherence.proofs.ForServer.Tables.{at-put, at-without}
+use Rattle.ec_lawful.proofs.OfClerkSteps.ForCalls.CallFrames.{lines-append}
 use Rattle.ec_lawful.specs.Calls.{EachCall, IsOf}
 use Rattle.ec_lease_machine.specs.OfQueues.Queued.{MayResume}
 use Rattle.ec_lawful.specs.Steps.{IsNewIn, MayHappen}

@@ -23,8 +23,8 @@ use Rattle.ec_protocol.specs.declared.world.Event.{Event}
 use Rattle.ec_protocol.specs.declared.world.Event.TheVariants as of_world
 use Rattle.ec_protocol.specs.declared.world.World.{World}
 use Rattle.ec_protocol.specs.declared.world.WorldFault.{WorldFault}
-use Rattle.ec_lawful.proofs.OfClerkSteps.Begin.{fresh-lines}
-use Rattle.ec_lawful.proofs.OfClerkSteps.CallFrames.{lines-append}
+use Rattle.ec_lawful.proofs.OfClerkSteps.ForCalls.Begin.{fresh-lines}
+use Rattle.ec_lawful.proofs.OfClerkSteps.ForCalls.CallFrames.{lines-append}
 use Rattle.ec_lease_machine.specs.OfQueues.Queued.{MayResume, MayWait}
 use Rattle.ec_lease_machine.specs.OfQueues.Reached.{QueuedReached}
 use Rattle.ec_lease_machine.specs.OfQueues.Reached as ways

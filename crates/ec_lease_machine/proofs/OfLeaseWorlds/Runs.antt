@@ -26,12 +26,12 @@ use Rattle.ec_protocol.specs.declared.world.WorldFault.TheVariants as world_faul
 use Rattle.ec_protocol.specs.Drill.{Fates, this_fate, later_fates, first_fates, rest_fates, Ending, Done, BadLine, TooMany, IsSpent, max_pending}
 use Rattle.ec_protocol.specs.declared.script.Line.{Line as Scripted}
 use Rattle.ec_protocol.specs.declared.script.Line.TheVariants as line
-use Rattle.ec_coherence.proofs.Tables.{same_some}
+use Rattle.ec_coherence.proofs.ForServer.Tables.{same_some}
 use Rattle.ec_lawful.specs.Calls.{AreOf, IsOf}
 use Rattle.ec_lawful.specs.Headline.{FrontsAreLawful, placed_on}
 use Rattle.ec_lawful.specs.Olds.{opened_in}
 use Rattle.ec_lawful.specs.Reached.{IsInOrder}
-use Rattle.ec_lawful.proofs.Outs.{came-out}
+use Rattle.ec_lawful.proofs.ForWhole.Outs.{came-out}
 use Rattle.ec_lawful.proofs.Worlds.{no-lines}
 use Rattle.ec_history.specs.OfLaws.OfPrinted.Printed.{AreTimely}
 use Rattle.ec_history.proofs.OfLaws.OfPrinted.Lines.{timely-legal}

@@ -5,26 +5,26 @@ use Rattle.std.proofs.lemmas.List.Folds.{list_any-append}
 use Rattle.ec_plain.specs.BoundedCalls.{is_bounded}
 use Rattle.ec_plain.specs.declared.call.Call.{Call}
 use Rattle.ec_history.specs.History.{Each}
-use Rattle.ec_history.proofs.OfLaws.Numbers.{each-append}
+use Rattle.ec_history.proofs.OfLaws.ForPlacing.Numbers.{each-append}
 use Rattle.ec_protocol.specs.Clerk.{add_call}
 use Rattle.ec_protocol.specs.declared.clerk.Clerk.{Clerk}
 use Rattle.ec_protocol.specs.declared.clerk.Waiting.{Waiting}
 use Rattle.ec_coherence.specs.System.{System}
 use Rattle.ec_coherence.specs.Events.{EventsAgree}
 use Rattle.ec_coherence.specs.Steps.{call_of}
-use Rattle.ec_coherence.proofs.ClerkIn.{start-same}
-use Rattle.ec_coherence.proofs.Tables.{same_some}
+use Rattle.ec_coherence.proofs.ForBatches.ClerkIn.{start-same}
+use Rattle.ec_coherence.proofs.ForServer.Tables.{same_some}
 use Rattle.ec_lawful.specs.OfClerkSteps.Calls.{HaveDistinctNumbers, Began, CallsAgree, IsOpenCall, StartCalls, has_number}
 use Rattle.ec_lawful.specs.OfClerkSteps.Waits.{AreAtRest, AreInTurn, HasLine, does_wait}
 use Rattle.ec_lawful.specs.OfClerkSteps.CallLaws.{called}
 use Rattle.ec_coherence.specs.Comes.{begun_at}
-use Rattle.ec_lawful.proofs.OfClerkSteps.Begin.{call-put}
-use Rattle.ec_lawful.proofs.OfClerkSteps.Lined.{began-last}
-use Rattle.ec_lawful.proofs.OfClerkSteps.Quiet.{other-start, split-start}
+use Rattle.ec_lawful.proofs.OfClerkSteps.ForCalls.Begin.{call-put}
+use Rattle.ec_lawful.proofs.OfClerkSteps.ForCalls.Lined.{began-last}
+use Rattle.ec_lawful.proofs.OfClerkSteps.ForCalls.Quiet.{other-start, split-start}
 use Rattle.ec_lease_machine.specs.OfQueues.Queued.{MayBegin}
 use Rattle.ec_base.proofs.Numbers.{same-self as same, equal}
 use Rattle.ec_base.proofs.Bools.{or-right as or_next, or_first, holds-true as holds}
-use Rattle.ec_history.proofs.OfLaws.BasesAlike.{each-map}
+use Rattle.ec_history.proofs.OfLaws.ForPlacing.BasesAlike.{each-map}
 
 -- one more call, with a greater number
 apart-more : (ws : List Waiting) (v : Waiting) → Each (λ w. (v.no == w.no) ≡ false) ws → HaveDistinctNumbers ws → HaveDistinctNumbers (ws ++ v ∷ [])

@@ -18,9 +18,9 @@ use Rattle.ec_coherence.specs.StandLaws.{lined}
 use Rattle.ec_lease_machine.specs.World.{resume, resume_on, wait}
 use Rattle.ec_lawful.specs.Steps.{HoldsIn, StepIsDone}
 use Rattle.ec_lawful.specs.Ties.{called}
-use Rattle.ec_lawful.proofs.Called.{new-line}
-use Rattle.ec_lawful.proofs.Frames.{added-stands, lined-stands}
-use Rattle.ec_lawful.proofs.Standing.{done-stands}
+use Rattle.ec_lawful.proofs.ForBegins.Called.{new-line}
+use Rattle.ec_lawful.proofs.ForWhole.Frames.{added-stands, lined-stands}
+use Rattle.ec_lawful.proofs.ForWhole.Standing.{done-stands}
 use Rattle.ec_lease_machine.specs.OfQueues.Queued.{MayBegin, MayResume, MayWait, QueuesKeep}
 use Rattle.ec_base.proofs.Options.{none_some}
 use Rattle.ec_lawful.proofs.Events.{runs-in}

@@ -15,7 +15,7 @@ use Rattle.ec_lawful.specs.Runs.{OfRun}
 use Rattle.ec_lawful.specs.Steps.{StepIsDone}
 use Rattle.ec_lawful.specs.Ties.{called, waiting}
 use Rattle.ec_lawful.specs.Whole.{Whole}
-use Rattle.ec_lawful.proofs.Agreeing.{steps-stay}
+use Rattle.ec_lawful.proofs.ForAsked.Agreeing.{steps-stay}
 use Rattle.ec_lawful.proofs.Tries.{tries-show}
 use Rattle.ec_lease_machine.specs.OfQueues.Queued.{QueuesKeep}
 use Rattle.ec_lease_machine.proofs.OfQueues.Resumes.{resumes-whole}

@@ -8,16 +8,16 @@ use Rattle.ec_protocol.specs.declared.clerk.Clerk.{Clerk}
 use Rattle.ec_coherence.specs.System.{System, Ghost, if_in, with_start}
 use Rattle.ec_coherence.specs.ChangeLaws.{Calls, with_clerk}
 use Rattle.ec_coherence.specs.Steps.{doing_in}
-use Rattle.ec_coherence.proofs.ClerkIn.{not-in-it}
-use Rattle.ec_coherence.proofs.Tables.{differs}
+use Rattle.ec_coherence.proofs.ForBatches.ClerkIn.{not-in-it}
+use Rattle.ec_coherence.proofs.ForServer.Tables.{differs}
 use Rattle.ec_coherence.specs.CommitLaws.{AllAgree}
 use Rattle.ec_coherence.specs.StandLaws.{ClerkStands, SessionGoesOn, IsUnderWay}
 use Rattle.ec_coherence.proofs.Rests.{rests-stand}
 use Rattle.ec_lawful.specs.OfClerkSteps.Cuts.{CutKnows, CutsAgree}
-use Rattle.ec_lawful.proofs.OfClerkSteps.OutsideChanges.{outside-all}
+use Rattle.ec_lawful.proofs.OfClerkSteps.ForJoins.OutsideChanges.{outside-all}
 use Rattle.ec_lawful.specs.OfClerkSteps.Calls.{CallsAgree}
 use Rattle.ec_lawful.specs.OfClerkSteps.Waits.{AreAtRest, AreInTurn}
-use Rattle.ec_lawful.proofs.OfClerkSteps.Quiet.{split-start}
+use Rattle.ec_lawful.proofs.OfClerkSteps.ForCalls.Quiet.{split-start}
 use Rattle.ec_lawful.specs.Ties.{called}
 use Rattle.ec_lawful.specs.BeginLaws.{HasBegun}
 use Rattle.ec_lease_machine.specs.OfQueues.Queued.{MayBegin}

@@ -11,8 +11,8 @@ use Rattle.ec_protocol.specs.declared.clerk.Clerk.{Clerk}
 use Rattle.ec_protocol.specs.declared.clerk.Waiting.{Waiting}
 use Rattle.ec_coherence.specs.System.{System, Ghost}
 use Rattle.ec_coherence.specs.Steps.{call_of, calls_after, doing_in, sends}
-use Rattle.ec_coherence.proofs.Lists.{each-more, each-turn}
-use Rattle.ec_coherence.proofs.Tables.{same_some}
+use Rattle.ec_coherence.proofs.ForServer.Lists.{each-more, each-turn}
+use Rattle.ec_coherence.proofs.ForServer.Tables.{same_some}
 use Rattle.ec_coherence.specs.CommitLaws.{AllAgree}
 use Rattle.ec_lawful.specs.OfClerkSteps.Calls.{has_number, is_shown}
 use Rattle.ec_lawful.specs.OfClerkSteps.CallLaws.{prepared}
@@ -22,21 +22,21 @@ use Rattle.ec_lawful.specs.OfClerkSteps.Orderly.{IsOrderly}
 use Rattle.ec_lawful.specs.OfClerkSteps.Trying.{IsTrying}
 use Rattle.ec_lawful.specs.OfClerkSteps.Waits.{HasLine, IsAtRest, NoneReady, does_wait}
 use Rattle.ec_lawful.specs.OfClerkSteps.Zeros.{HasNoZero, ZerosAgree}
-use Rattle.ec_lawful.proofs.OfClerkSteps.Begin.{call-put}
-use Rattle.ec_lawful.proofs.OfClerkSteps.FreesStored.{stills-keep}
-use Rattle.ec_lawful.proofs.OfClerkSteps.NamesChanging.{clerks-keep}
-use Rattle.ec_lawful.proofs.OfClerkSteps.Sent.{own-full, settle-own}
-use Rattle.ec_lawful.proofs.OfClerkSteps.ZerosBehind.{steps-keep}
+use Rattle.ec_lawful.proofs.OfClerkSteps.ForCalls.Begin.{call-put}
+use Rattle.ec_lawful.proofs.OfClerkSteps.ForDoings.FreesStored.{stills-keep}
+use Rattle.ec_lawful.proofs.OfClerkSteps.ForNames.NamesChanging.{clerks-keep}
+use Rattle.ec_lawful.proofs.OfClerkSteps.ForNames.Sent.{own-full, settle-own}
+use Rattle.ec_lawful.proofs.OfClerkSteps.ForNames.ZerosBehind.{steps-keep}
 use Rattle.ec_lawful.specs.BeginLaws.{HasBegun}
 use Rattle.ec_lawful.specs.Fresh.{FreshAgrees}
 use Rattle.ec_lawful.specs.SettleLaws.{Beside, IsLined, TriesAll}
 use Rattle.ec_lawful.specs.Steps.{StepIsDone as IsDone}
 use Rattle.ec_lawful.specs.Ties.{called}
 use Rattle.ec_lawful.specs.Whole.{ShowsAll, Whole}
-use Rattle.ec_lawful.proofs.Beginning.{begins}
-use Rattle.ec_lawful.proofs.Carrying.{no-zero}
-use Rattle.ec_lawful.proofs.FreshSteps.{start-fresh}
-use Rattle.ec_lawful.proofs.From.{doubts-stay}
+use Rattle.ec_lawful.proofs.ForBegins.Beginning.{begins}
+use Rattle.ec_lawful.proofs.ForBegins.Carrying.{no-zero}
+use Rattle.ec_lawful.proofs.ForWhole.FreshSteps.{start-fresh}
+use Rattle.ec_lawful.proofs.ForWhole.From.{doubts-stay}
 use Rattle.ec_lawful.proofs.LinesLeft.{lines-at-end}
 use Rattle.ec_lawful.proofs.Settling.{settles-call}
 use Rattle.ec_lease_machine.specs.OfQueues.Queued.{MayBegin}

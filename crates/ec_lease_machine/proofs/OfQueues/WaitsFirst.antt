@@ -8,7 +8,7 @@ use Rattle.ec_history.specs.History.{Each}
 use Rattle.ec_history.specs.Placing.{Agrees, Unanswered, begun, is_numbered, last_place, unwatched, watch, watch_next}
 use Rattle.ec_history.specs.declared.shown.Shown.{Shown}
 use Rattle.ec_history.specs.declared.shown.Shown.TheVariants as show
-use Rattle.ec_history.proofs.OfLaws.More.{watch-step}
+use Rattle.ec_history.proofs.OfLaws.ForPlacing.More.{watch-step}
 use Rattle.ec_protocol.specs.declared.clerk.Clerk.{Clerk}
 use Rattle.ec_protocol.specs.declared.clerk.Waiting.{Waiting}
 use Rattle.ec_coherence.specs.Comes.{begun_at}
@@ -17,26 +17,26 @@ use Rattle.ec_coherence.specs.Events.{EventsAgree, shown_boot}
 use Rattle.ec_coherence.specs.StandLaws.{lined}
 use Rattle.ec_coherence.specs.Steps.{call_of}
 use Rattle.ec_coherence.specs.System.{System}
-use Rattle.ec_coherence.proofs.Lists.{each-turn}
+use Rattle.ec_coherence.proofs.ForServer.Lists.{each-turn}
 use Rattle.ec_lawful.specs.OfClerkSteps.CallLaws.{IsNewLine}
 use Rattle.ec_lawful.specs.OfClerkSteps.Calls.{Began, CallsAgree, IsBefore, IsOpenCall, LosesBelow, StartCalls, is_shown, told_to}
 use Rattle.ec_lawful.specs.OfClerkSteps.Counts.{CountsAgree}
 use Rattle.ec_lawful.specs.OfClerkSteps.Waits.{AreAtRest, HasLine, does_wait}
-use Rattle.ec_lawful.proofs.OfClerkSteps.Begin.{fresh-lines}
-use Rattle.ec_lawful.proofs.OfClerkSteps.CallFrames.{lines-append}
-use Rattle.ec_lawful.proofs.OfClerkSteps.CutFrames.{lines-keep-counts, same-cuts}
-use Rattle.ec_lawful.proofs.OfClerkSteps.Known.{first-line}
-use Rattle.ec_lawful.proofs.OfClerkSteps.Lined.{began-last}
-use Rattle.ec_lawful.proofs.OfClerkSteps.NameFrames.{names-read}
-use Rattle.ec_lawful.proofs.OfClerkSteps.Shown.{waits-stand}
-use Rattle.ec_lawful.proofs.OfClerkSteps.ZerosBehind.{same-keeps}
-use Rattle.ec_lawful.proofs.FreshSteps.{record-fresh}
-use Rattle.ec_lawful.proofs.LinesTell.{line-tells}
+use Rattle.ec_lawful.proofs.OfClerkSteps.ForCalls.Begin.{fresh-lines}
+use Rattle.ec_lawful.proofs.OfClerkSteps.ForCalls.CallFrames.{lines-append}
+use Rattle.ec_lawful.proofs.OfClerkSteps.ForJoins.CutFrames.{lines-keep-counts, same-cuts}
+use Rattle.ec_lawful.proofs.OfClerkSteps.ForCalls.Known.{first-line}
+use Rattle.ec_lawful.proofs.OfClerkSteps.ForCalls.Lined.{began-last}
+use Rattle.ec_lawful.proofs.OfClerkSteps.ForNames.NameFrames.{names-read}
+use Rattle.ec_lawful.proofs.OfClerkSteps.ForCalls.Shown.{waits-stand}
+use Rattle.ec_lawful.proofs.OfClerkSteps.ForNames.ZerosBehind.{same-keeps}
+use Rattle.ec_lawful.proofs.ForWhole.FreshSteps.{record-fresh}
+use Rattle.ec_lawful.proofs.ForWhole.LinesTell.{line-tells}
 use Rattle.ec_lawful.specs.Whole.{Whole}
 use Rattle.ec_base.proofs.Options.{none_some}
 use Rattle.ec_base.proofs.Numbers.{equal}
-use Rattle.ec_history.proofs.OfLaws.BasesAlike.{each-map}
-use Rattle.ec_history.proofs.OfLaws.Late.{begun-untold}
+use Rattle.ec_history.proofs.OfLaws.ForPlacing.BasesAlike.{each-map}
+use Rattle.ec_history.proofs.OfLaws.ForPlacing.Late.{begun-untold}
 
 module _ (g : System) (whole : Whole g) (c b l : ℕ) (cl : Call) (run : g.running c ≡ Some b) (new : IsNewLine g l) where
   abbrev line : Shown

@@ -15,7 +15,7 @@ use Rattle.ec_protocol.specs.declared.world.World.{World}
 use Rattle.ec_coherence.specs.System.{System}
 use Rattle.ec_coherence.specs.Steps.{call_of}
 use Rattle.ec_coherence.specs.StandLaws.{lined}
-use Rattle.ec_lawful.proofs.OfClerkSteps.Steps.{step-most}
+use Rattle.ec_lawful.proofs.OfClerkSteps.ForJoins.Steps.{step-most}
 use Rattle.ec_lawful.specs.Asked.{AsksAgree}
 use Rattle.ec_lawful.specs.AskedLaws.{RestsKeep}
 use Rattle.ec_lawful.specs.Calls.{AreOf, IsOf}
@@ -28,14 +28,14 @@ use Rattle.ec_lawful.specs.Runs.{OfRun}
 use Rattle.ec_lawful.specs.Steps as steps
 use Rattle.ec_lawful.specs.Steps.{MayHappen, StepsKeep}
 use Rattle.ec_lawful.specs.Whole.{Whole}
-use Rattle.ec_lawful.proofs.Agreeing.{asks-keep}
+use Rattle.ec_lawful.proofs.ForAsked.Agreeing.{asks-keep}
 use Rattle.ec_lawful.proofs.Events.{event-holds}
-use Rattle.ec_lawful.proofs.Founds.{steps-so}
-use Rattle.ec_lawful.proofs.Frames.{forgotten-stands, lined-stands}
-use Rattle.ec_lawful.proofs.Halts.{doubted-whole, found-whole, start-leaves, stopped-line-whole, up-whole}
-use Rattle.ec_lawful.proofs.Opened.{opened-agrees}
-use Rattle.ec_lawful.proofs.Opens.{world-stands}
-use Rattle.ec_lawful.proofs.OpensWhole.{opened-whole}
+use Rattle.ec_lawful.proofs.ForWhole.Founds.{steps-so}
+use Rattle.ec_lawful.proofs.ForWhole.Frames.{forgotten-stands, lined-stands}
+use Rattle.ec_lawful.proofs.ForWhole.Halts.{doubted-whole, found-whole, start-leaves, stopped-line-whole, up-whole}
+use Rattle.ec_lawful.proofs.ForAsked.Opened.{opened-agrees}
+use Rattle.ec_lawful.proofs.ForWhole.Opens.{world-stands}
+use Rattle.ec_lawful.proofs.ForWhole.OpensWhole.{opened-whole}
 use Rattle.ec_lawful.proofs.Worlds.{in-order-of, kept-by, no-calls, no-lines, opened-holds}
 use Rattle.ec_lease_machine.specs.World.{resume, wait}
 use Rattle.ec_lease_machine.specs.OfQueues.Adds.{MayBe}

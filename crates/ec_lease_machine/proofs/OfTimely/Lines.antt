@@ -12,19 +12,19 @@ use Rattle.ec_history.specs.declared.entry.Answer.{Answer}
 use Rattle.ec_history.specs.declared.shown.Shown.{Shown}
 use Rattle.ec_history.specs.declared.shown.Shown.TheVariants as show
 use Rattle.ec_history.specs.declared.watch.Watch.{Watch}
-use Rattle.ec_history.proofs.OfLaws.More.{watch-step}
+use Rattle.ec_history.proofs.OfLaws.ForPlacing.More.{watch-step}
 use Rattle.ec_protocol.specs.World.{is_answer_to}
 use Rattle.ec_protocol.specs.declared.clerk.Out.{Out}
 use Rattle.ec_protocol.specs.declared.clerk.Out.TheVariants as out
 use Rattle.ec_coherence.specs.ChangeLaws.{Calls}
 use Rattle.ec_coherence.specs.Steps.{call_of, calls_after, less_call, out_lines}
-use Rattle.ec_coherence.proofs.Tables.{same_some}
-use Rattle.ec_lawful.proofs.OfClerkSteps.CallsLeft.{call-less}
+use Rattle.ec_coherence.proofs.ForServer.Tables.{same_some}
+use Rattle.ec_lawful.proofs.OfClerkSteps.ForCalls.CallsLeft.{call-less}
 use Rattle.ec_lawful.proofs.LinesLeft.{answered-gone}
 use Rattle.ec_history.specs.OfLaws.OfPrinted.Printed.{AreTimely, IsBare}
 use Rattle.ec_base.proofs.Numbers.{same-self as same}
 use Rattle.ec_base.proofs.Options.{none_some}
-use Rattle.ec_history.proofs.OfLaws.Late.{begun-untold}
+use Rattle.ec_history.proofs.OfLaws.ForPlacing.Late.{begun-untold}
 
 -- Lines behind lines.
 

@@ -14,7 +14,7 @@ use Rattle.ec_history.specs.History.{Each}
 use Rattle.ec_history.specs.declared.entry.Answer.{Answer}
 use Rattle.ec_history.specs.declared.entry.Answer.TheVariants as answer
 use Rattle.ec_cache.specs.Cache as cache
-use Rattle.ec_history.proofs.OfLaws.Numbers.{each-append}
+use Rattle.ec_history.proofs.OfLaws.ForPlacing.Numbers.{each-append}
 use Rattle.ec_log.specs.Log as log
 use Rattle.ec_log.specs.declared.state.Asked.{Asked}
 use Rattle.ec_log.specs.declared.state.Asked.TheVariants.{All}
@@ -28,7 +28,7 @@ use Rattle.ec_protocol.specs.declared.clerk.Out.TheVariants as out
 use Rattle.ec_protocol.specs.declared.clerk.Waiting.{Waiting}
 use Rattle.ec_coherence.specs.Answers.{Gives}
 use Rattle.ec_coherence.specs.Sessions.{HasNone}
-use Rattle.ec_coherence.proofs.Tables.{same_some}
+use Rattle.ec_coherence.proofs.ForServer.Tables.{same_some}
 use Rattle.ec_lawful.specs.OfClerkSteps.Answering.{Suits}
 use Rattle.ec_lawful.proofs.OfClerkSteps.OutsideAnswers.{no-update, still-cached}
 use Rattle.ec_lease_machine.proofs.OfLeaseLaws.Outside.{outside-bare}

@@ -11,8 +11,8 @@ use Rattle.ec_history.specs.History.{Each, Op}
 use Rattle.ec_history.specs.Placing.{watch}
 use Rattle.ec_history.specs.declared.shown.Shown.{Shown}
 use Rattle.ec_history.specs.declared.shown.Shown.TheVariants as show
-use Rattle.ec_history.proofs.OfLaws.Numbers.{each-append}
-use Rattle.ec_history.proofs.OfLaws.Watching.{untold-runs}
+use Rattle.ec_history.proofs.OfLaws.ForPlacing.Numbers.{each-append}
+use Rattle.ec_history.proofs.OfLaws.ForPlacing.Watching.{untold-runs}
 use Rattle.ec_sessions.specs.Slots.{is_open}
 use Rattle.ec_wire.specs.Messages.{kind, same_kind}
 use Rattle.ec_wire.specs.declared.msg.Msg.{Msg}
@@ -44,17 +44,17 @@ use Rattle.ec_coherence.specs.Events.{IsUncut}
 use Rattle.ec_coherence.specs.Log.{numbered}
 use Rattle.ec_coherence.specs.Steps.{Stands, call_of, out_lines}
 use Rattle.ec_coherence.specs.System.{System, is_of}
-use Rattle.ec_coherence.proofs.Tables.{same_some}
+use Rattle.ec_coherence.proofs.ForServer.Tables.{same_some}
 use Rattle.ec_lawful.specs.OfClerkSteps.Calls.{Began}
 use Rattle.ec_lawful.specs.OfClerkSteps.Cuts.{CutKnows, lost_of}
-use Rattle.ec_lawful.proofs.OfClerkSteps.Begin.{call-put}
-use Rattle.ec_lawful.proofs.OfClerkSteps.Owing.{keys-are, log-lost}
-use Rattle.ec_lawful.proofs.OfClerkSteps.Quiets.{quiet-resend}
-use Rattle.ec_lawful.proofs.OfClerkSteps.Slots.{its-slot}
+use Rattle.ec_lawful.proofs.OfClerkSteps.ForCalls.Begin.{call-put}
+use Rattle.ec_lawful.proofs.OfClerkSteps.ForJoins.Owing.{keys-are, log-lost}
+use Rattle.ec_lawful.proofs.OfClerkSteps.ForCalls.Quiets.{quiet-resend}
+use Rattle.ec_lawful.proofs.OfClerkSteps.ForJoins.Slots.{its-slot}
 use Rattle.ec_log.specs.Log as log
 use Rattle.ec_lawful.specs.Whole.{Whole}
-use Rattle.ec_lawful.proofs.Outs.{came-out}
-use Rattle.ec_lawful.proofs.Pool.{sends-all}
+use Rattle.ec_lawful.proofs.ForWhole.Outs.{came-out}
+use Rattle.ec_lawful.proofs.ForWhole.Pool.{sends-all}
 use Rattle.ec_protocol.specs.OfPool.Goings.{goes_to}
 use Rattle.ec_lease_machine.specs.World.{resume, resume_on, session}
 use Rattle.ec_history.specs.OfLaws.OfPrinted.Printed.{AreTimely, IsBare, IsTimely}
@@ -64,7 +64,7 @@ use Rattle.ec_lease_machine.proofs.OfTimely.Outside.{IsBareAnswer, begins-bare}
 use Rattle.ec_lease_machine.proofs.OfTimely.Taking.{ended-timely, is-ended, outside-timely}
 use Rattle.ec_base.proofs.Options.{none_some}
 use Rattle.ec_lawful.proofs.Events.{runs-in}
-use Rattle.ec_history.proofs.OfLaws.BasesAlike.{each-map}
+use Rattle.ec_history.proofs.OfLaws.ForPlacing.BasesAlike.{each-map}
 
 -- What a clerk without a session lost.
 

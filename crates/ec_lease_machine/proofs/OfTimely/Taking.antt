@@ -26,14 +26,14 @@ use Rattle.ec_coherence.specs.Steps.{out_lines}
 use Rattle.ec_coherence.specs.System.{System}
 use Rattle.ec_lawful.specs.OfClerkSteps.CallLaws.{IsQuiet, IsStill}
 use Rattle.ec_lawful.specs.OfClerkSteps.Waits.{HasLine, IsAtRest, NoneReady, does_wait}
-use Rattle.ec_lawful.proofs.OfClerkSteps.Quiets.{quiet-sent}
-use Rattle.ec_lawful.proofs.OfClerkSteps.Still.{none-still, quiet-then, still-same, still-sent, still-waits}
+use Rattle.ec_lawful.proofs.OfClerkSteps.ForCalls.Quiets.{quiet-sent}
+use Rattle.ec_lawful.proofs.OfClerkSteps.ForCalls.Still.{none-still, quiet-then, still-same, still-sent, still-waits}
 use Rattle.ec_lease_machine.proofs.OfLeaseLaws.Resting.{resting-quiet}
 use Rattle.ec_history.specs.OfLaws.OfPrinted.Printed.{AreTimely}
 use Rattle.ec_plain.specs.BoundedCalls.{is_bounded}
 use Rattle.ec_lease_machine.proofs.OfTimely.Outside.{settles-bare}
 use Rattle.ec_lease_machine.proofs.OfTimely.Lines.{ToldFirst, silent-timely, told-first, told-timely}
-use Rattle.ec_history.proofs.OfLaws.BasesAlike.{each-map}
+use Rattle.ec_history.proofs.OfLaws.ForPlacing.BasesAlike.{each-map}
 
 -- What a message does to a clerk without a session: at most it's greeted, or the clerk is in a session, in which it holds nothing yet.
 

@@ -12,7 +12,7 @@ use Rattle.ec_history.specs.declared.shown.Shown.{Shown}
 use Rattle.ec_history.specs.History.{Base, History, Throughout, Covers, issued, is_entry_of, of_issue, asks, is_lost}
 use Rattle.ec_history.specs.Placing.{place}
 use Rattle.ec_history.specs.Lines.{IsCovered, AreCovered, durable}
-use Rattle.ec_history.proofs.OfLaws.Least.{list-complete}
+use Rattle.ec_history.proofs.OfLaws.ForPlacing.Least.{list-complete}
 use Rattle.ec_base.proofs.Bools.{first as left, right, implied}
 
 -- What an entry covers.

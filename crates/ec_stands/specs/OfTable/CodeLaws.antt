@@ -19,7 +19,7 @@ use Rattle.ec_journal.specs.OfLayout.Places.{table_bytes}
 use Rattle.ec_stands.specs.declared.table.table.Table.{Table}
 use Rattle.ec_stands.specs.declared.table.table.Version.{Version}
 use Rattle.ec_stands.specs.declared.table.table.Version.TheVariants.{One, Two}
-use Rattle.ec_stands.specs.OfTable.Codes.{last_first_field, last_row, is_behind, is_above, id_above, ids_field, slot_fields, slot_tag, is_slot_tag, fields_of, slot_of, never, to_never, held, slot_form, slot_code, always, slots_field, ids_in, numbers_in, is_free, place_after, place_spell, places_field, state_fields, parts_of, table_of, state_code, ends_at, in_size, sized, max_old_state, max_new_state, old_table, new_table, Versioned, spell_version, fits_version, in_version, read_version, table_code}
+use Rattle.ec_stands.specs.OfTable.Codes.{last_first_field, last_row, is_behind, is_above, id_above, ids_field, slot_fields, slot_tag, fields_of, slot_of, never, to_never, held, slot_form, slot_code, always, slots_field, ids_in, numbers_in, is_free, place_after, place_spell, places_field, state_fields, parts_of, table_of, state_code, ends_at, in_size, sized, max_old_state, max_new_state, old_table, new_table, Versioned, spell_version, fits_version, in_version, read_version, table_code}
 use Rattle.ec_base.specs.SmallLaws.{same_some}
 use Rattle.ec_base.specs.Options.{or_zero}
 
@@ -118,7 +118,7 @@ slot_form_tags t =
 
 pub slot-is : IsFormat slot_code
 unfolding slot_code
-slot-is = tagged_is is_slot_tag slot_tag slot_form slot_form_is slot_form_tags
+slot-is = tagged_is (λ t. nat_le t 2) slot_tag slot_form slot_form_is slot_form_tags
 
 always_is : (n : ℕ) → IsFormat (always n)
 always_is n = record {

@@ -51,9 +51,6 @@ abbrev pub slot_tag : Option Slot → ℕ
 slot_tag None = 0
 slot_tag (Some sl) = if sl.is_open then 1 else 2
 
-abbrev pub is_slot_tag : ℕ → Bool
-is_slot_tag t = nat_le t 2
-
 abbrev pub fields_of : Slot → Age × (ℕ × (ℕ × (ℕ × (ℕ × (Option ℕ × List ℕ)))))
 fields_of sl = (sl.age, (sl.session, (sl.window.low, (sl.window.mask, (sl.grants, (sl.last_first, sl.unspent))))))
 
@@ -90,7 +87,7 @@ slot_form t =
     else nothing
 
 unfoldable pub slot_code : Format (Option Slot)
-slot_code = tagged is_slot_tag slot_tag slot_form
+slot_code = tagged (λ t. nat_le t 2) slot_tag slot_form
 
 -- no bytes; so many
 abbrev pub always : ℕ → Format ℕ

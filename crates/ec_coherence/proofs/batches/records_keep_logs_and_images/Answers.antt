@@ -1,5 +1,5 @@
-use Rattle.ec_coherence.proofs.Flushed.{every-flush-steps}
-use Rattle.ec_coherence.proofs.Records.{batches-keep, ends-keep}
+use Rattle.ec_coherence.proofs.ForBatches.Flushed.{every-flush-steps}
+use Rattle.ec_coherence.proofs.ForBatches.Records.{batches-keep, ends-keep}
 use Rattle.ec_coherence.proofs.batches.records_keep_logs_and_images.Goals as goal
 
 pub returns-clause-steps : goal.returns-clause-steps

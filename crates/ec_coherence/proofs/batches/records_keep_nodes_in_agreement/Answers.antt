@@ -2,11 +2,11 @@ use Rattle.std.proofs.Common.{ap}
 use Rattle.ec_volume.specs.Update.{member}
 use Rattle.ec_sessions.specs.OfTokens.Tokens.{token}
 use Rattle.ec_coherence.specs.System.{eff_from}
-use Rattle.ec_coherence.proofs.FinishAgrees.{finish-agrees}
-use Rattle.ec_coherence.proofs.FlushAgrees.{flush-agrees}
-use Rattle.ec_coherence.proofs.GiveAgrees.{give-agrees}
-use Rattle.ec_coherence.proofs.OpenAgrees.{open-agrees}
-use Rattle.ec_coherence.proofs.OverAgrees.{over-agrees}
+use Rattle.ec_coherence.proofs.ForBatches.FinishAgrees.{finish-agrees}
+use Rattle.ec_coherence.proofs.ForBatches.FlushAgrees.{flush-agrees}
+use Rattle.ec_coherence.proofs.ForBatches.GiveAgrees.{give-agrees}
+use Rattle.ec_coherence.proofs.ForBatches.OpenAgrees.{open-agrees}
+use Rattle.ec_coherence.proofs.ForBatches.OverAgrees.{over-agrees}
 use Rattle.ec_coherence.proofs.batches.records_keep_nodes_in_agreement.Goals as goal
 use Rattle.ec_base.proofs.Bools.{is-true}
 

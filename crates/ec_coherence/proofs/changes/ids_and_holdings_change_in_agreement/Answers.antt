@@ -1,7 +1,7 @@
-use Rattle.ec_coherence.proofs.GivenIds.{given-logs, given-images}
-use Rattle.ec_coherence.proofs.HeldChange as change
-use Rattle.ec_coherence.proofs.HeldChange.{held-logs, held-images}
-use Rattle.ec_coherence.proofs.TakenIds.{taken-logs, taken-images}
+use Rattle.ec_coherence.proofs.ForBatches.GivenIds.{given-logs, given-images}
+use Rattle.ec_coherence.proofs.ForBatches.HeldChange as change
+use Rattle.ec_coherence.proofs.ForBatches.HeldChange.{held-logs, held-images}
+use Rattle.ec_coherence.proofs.ForBatches.TakenIds.{taken-logs, taken-images}
 use Rattle.ec_coherence.proofs.changes.ids_and_holdings_change_in_agreement.Goals as goal
 
 pub returns-clause-given : goal.returns-clause-given

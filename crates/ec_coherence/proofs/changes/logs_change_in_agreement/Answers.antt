@@ -1,5 +1,5 @@
-use Rattle.ec_coherence.proofs.Answered.{again-logs, again-images}
-use Rattle.ec_coherence.proofs.LogChange.{kept-logs, kept-images, pick-logs, pick-images}
+use Rattle.ec_coherence.proofs.ForBatches.Answered.{again-logs, again-images}
+use Rattle.ec_coherence.proofs.ForBatches.LogChange.{kept-logs, kept-images, pick-logs, pick-images}
 use Rattle.ec_coherence.proofs.changes.logs_change_in_agreement.Goals as goal
 
 pub returns-clause-passed : goal.returns-clause-passed

@@ -1,5 +1,5 @@
-use Rattle.ec_coherence.proofs.Answered.{answer-logs, answer-images}
-use Rattle.ec_coherence.proofs.CutOff.{cut-logs, cut-images}
+use Rattle.ec_coherence.proofs.ForBatches.Answered.{answer-logs, answer-images}
+use Rattle.ec_coherence.proofs.ForBatches.CutOff.{cut-logs, cut-images}
 use Rattle.ec_coherence.proofs.changes.operations_are_issued_in_agreement.Goals as goal
 
 pub returns-clause-kept : goal.returns-clause-kept

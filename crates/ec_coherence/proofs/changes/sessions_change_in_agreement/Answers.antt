@@ -1,6 +1,6 @@
-use Rattle.ec_coherence.proofs.NewSession.{new-logs, new-images}
-use Rattle.ec_coherence.proofs.OpenedSession.{opened-logs, opened-images}
-use Rattle.ec_coherence.proofs.Told.{told-logs, told-images}
+use Rattle.ec_coherence.proofs.ForBatches.NewSession.{new-logs, new-images}
+use Rattle.ec_coherence.proofs.ForBatches.OpenedSession.{opened-logs, opened-images}
+use Rattle.ec_coherence.proofs.ForBatches.Told.{told-logs, told-images}
 use Rattle.ec_coherence.specs.System.{is_open}
 use Rattle.ec_coherence.proofs.changes.sessions_change_in_agreement.Goals as goal
 use Rattle.ec_base.proofs.Bools.{not-both as no_both}

@@ -1,4 +1,4 @@
-use Rattle.ec_coherence.proofs.Takes.{taken-inside, taken-outside}
+use Rattle.ec_coherence.proofs.ForClerk.Takes.{taken-inside, taken-outside}
 use Rattle.ec_coherence.proofs.clerk.clerks_keep_tokens.Goals as goal
 
 pub returns-clause-outside : goal.returns-clause-outside

@@ -1,6 +1,6 @@
-use Rattle.ec_coherence.proofs.NothingShown.{opening-firsts, opening-watches}
-use Rattle.ec_coherence.proofs.Starting.{opening-starts}
-use Rattle.ec_coherence.proofs.Watched.{watches-read}
+use Rattle.ec_coherence.proofs.ForCommits.NothingShown.{opening-firsts, opening-watches}
+use Rattle.ec_coherence.proofs.ForCommits.Starting.{opening-starts}
+use Rattle.ec_coherence.proofs.ForCommits.Watched.{watches-read}
 use Rattle.ec_coherence.proofs.commits.lines_show_what_stands.Goals as goal
 
 pub returns-clause-opening : goal.returns-clause-opening

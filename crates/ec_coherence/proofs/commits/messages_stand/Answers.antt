@@ -4,7 +4,7 @@ use Rattle.ec_wire.specs.declared.msg.Msg.TheVariants.{Want, Back, Flush, Room, 
 use Rattle.ec_protocol.specs.declared.server.Server.{Server}
 use Rattle.ec_coherence.specs.System.{System}
 use Rattle.ec_coherence.specs.CommitLaws.{AllAgree, TakesStep, IsWant, IsBack, IsClaim, IsFlush, IsRoom}
-use Rattle.ec_coherence.proofs.Taking.{takes-back, takes-claim, takes-flush, takes-hello, takes-room, takes-want}
+use Rattle.ec_coherence.proofs.ForCommits.Taking.{takes-back, takes-claim, takes-flush, takes-hello, takes-room, takes-want}
 use Rattle.ec_coherence.proofs.commits.messages_stand.Goals as goal
 
 wants : (g : System) (v : Server) → AllAgree g → g.server ≡ Some v → (c : ℕ) (m : Msg) → IsWant m → Contains g.pool (c, m) → TakesStep g c m v

@@ -1,6 +1,6 @@
-use Rattle.ec_coherence.proofs.BatchCommits.{flush-shows, flush-stands, flush-starts}
-use Rattle.ec_coherence.proofs.Given.{give-firsts, give-stands, give-starts, give-watches, ids-in-range}
-use Rattle.ec_coherence.proofs.SessionCommits.{open-stands, open-starts, open-watches}
+use Rattle.ec_coherence.proofs.ForCommits.BatchCommits.{flush-shows, flush-stands, flush-starts}
+use Rattle.ec_coherence.proofs.ForCommits.Given.{give-firsts, give-stands, give-starts, give-watches, ids-in-range}
+use Rattle.ec_coherence.proofs.ForCommits.SessionCommits.{open-stands, open-starts, open-watches}
 use Rattle.ec_coherence.proofs.commits.records_stand.Goals as goal
 
 pub returns-clause-give : goal.returns-clause-give

@@ -1,10 +1,10 @@
 use Rattle.std.proofs.Common.{refl}
 use Rattle.ec_coherence.specs.Answers.{fresh_of}
-use Rattle.ec_coherence.proofs.Answering.{answers-stand}
-use Rattle.ec_coherence.proofs.Appended.{answer-keeps}
-use Rattle.ec_coherence.proofs.EndsLawful.{end-lawful}
-use Rattle.ec_coherence.proofs.Touching.{leaves-others}
-use Rattle.ec_coherence.proofs.Late.{late-answered, late-legal}
+use Rattle.ec_coherence.proofs.ForCommits.Answering.{answers-stand}
+use Rattle.ec_coherence.proofs.ForCommits.Appended.{answer-keeps}
+use Rattle.ec_coherence.proofs.ForCommits.EndsLawful.{end-lawful}
+use Rattle.ec_coherence.proofs.ForCommits.Touching.{leaves-others}
+use Rattle.ec_coherence.proofs.ForCommits.Late.{late-answered, late-legal}
 use Rattle.ec_coherence.proofs.events.answers_keep_the_history.Goals as goal
 
 pub returns-clause-stands : goal.returns-clause-stands

@@ -1,4 +1,4 @@
-use Rattle.ec_coherence.proofs.Beginning.{opening-agrees, first-start-stands}
+use Rattle.ec_coherence.proofs.ForServer.Beginning.{opening-agrees, first-start-stands}
 use Rattle.ec_coherence.proofs.opening.the_opening_agrees.Goals as goal
 
 pub returns-clause-opening : goal.returns-clause-opening

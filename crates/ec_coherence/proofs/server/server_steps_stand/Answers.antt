@@ -1,8 +1,8 @@
-use Rattle.ec_coherence.proofs.Frames.{tell-stands}
-use Rattle.ec_coherence.proofs.Handlers.{back-stands, want-stands, note-stands, claim-stands, record-ids-stands}
-use Rattle.ec_coherence.proofs.Replies.{tell-ended-stands}
-use Rattle.ec_coherence.proofs.ServeStands.{serve-stands}
-use Rattle.ec_coherence.proofs.Start.{start-stands}
+use Rattle.ec_coherence.proofs.ForServer.Frames.{tell-stands}
+use Rattle.ec_coherence.proofs.ForServer.Handlers.{back-stands, want-stands, note-stands, claim-stands, record-ids-stands}
+use Rattle.ec_coherence.proofs.ForServer.Replies.{tell-ended-stands}
+use Rattle.ec_coherence.proofs.ForServer.ServeStands.{serve-stands}
+use Rattle.ec_coherence.proofs.ForServer.Start.{start-stands}
 use Rattle.ec_coherence.proofs.server.server_steps_stand.Goals as goal
 
 pub returns-clause-serve : goal.returns-clause-serve

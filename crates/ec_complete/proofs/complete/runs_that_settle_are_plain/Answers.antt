@@ -1,4 +1,4 @@
-use Rattle.ec_complete.proofs.Runs.{completes}
+use Rattle.ec_complete.proofs.ForLines.Runs.{completes}
 use Rattle.ec_complete.proofs.complete.runs_that_settle_are_plain.Goals as goal
 
 pub returns : goal.returns

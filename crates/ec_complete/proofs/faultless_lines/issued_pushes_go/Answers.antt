@@ -1,4 +1,4 @@
-use Rattle.ec_complete.proofs.Going.{pushes-go}
+use Rattle.ec_complete.proofs.ForFaultless.Going.{pushes-go}
 use Rattle.ec_complete.proofs.faultless_lines.issued_pushes_go.Goals as goal
 
 pub returns : goal.returns

@@ -1,4 +1,4 @@
-use Rattle.ec_complete.proofs.Opening.{new-ready, openings-ready}
+use Rattle.ec_complete.proofs.ForFaultless.Opening.{new-ready, openings-ready}
 use Rattle.ec_complete.proofs.faultless_lines.openings_are_ready.Goals as goal
 
 pub returns-clause-old : goal.returns-clause-old

@@ -1,4 +1,4 @@
-use Rattle.ec_complete.proofs.Scripts.{scripts-plain}
+use Rattle.ec_complete.proofs.ForFaultless.Scripts.{scripts-plain}
 use Rattle.ec_complete.proofs.faultless_lines.scripts_are_plain.Goals as goal
 
 pub returns : goal.returns

@@ -1,4 +1,4 @@
-use Rattle.ec_complete.proofs.Scripts.{scripts-go-on, scripts-settle}
+use Rattle.ec_complete.proofs.ForFaultless.Scripts.{scripts-go-on, scripts-settle}
 use Rattle.ec_complete.proofs.faultless_lines.scripts_go_on.Goals as goal
 
 pub returns-clause-on : goal.returns-clause-on

@@ -1,4 +1,4 @@
-use Rattle.ec_complete.proofs.Following.{followed, stays, writes}
+use Rattle.ec_complete.proofs.ForFaultless.Following.{followed, stays, writes}
 use Rattle.ec_complete.proofs.followed_lines.lines_stay_worked.Goals as goal
 
 pub returns-clause-stay : goal.returns-clause-stay

@@ -1,4 +1,4 @@
-use Rattle.ec_complete.proofs.Begun.{begins-are-steps}
+use Rattle.ec_complete.proofs.ForLines.Begun.{begins-are-steps}
 use Rattle.ec_complete.proofs.line_begins.begun_calls_are_such_steps.Goals as goal
 
 pub returns : goal.returns

@@ -1,4 +1,4 @@
-use Rattle.ec_complete.proofs.On.{calls-leave-kept}
+use Rattle.ec_complete.proofs.ForLines.On.{calls-leave-kept}
 use Rattle.ec_complete.proofs.line_calls.calls_leave_what_is_kept.Goals as goal
 
 pub returns : goal.returns

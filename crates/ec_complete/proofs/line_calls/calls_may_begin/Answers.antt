@@ -1,4 +1,4 @@
-use Rattle.ec_complete.proofs.May.{calls-may-begin}
+use Rattle.ec_complete.proofs.ForLines.May.{calls-may-begin}
 use Rattle.ec_complete.proofs.line_calls.calls_may_begin.Goals as goal
 
 pub returns : goal.returns

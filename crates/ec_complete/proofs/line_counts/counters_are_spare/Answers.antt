@@ -1,4 +1,4 @@
-use Rattle.ec_complete.proofs.Below.{counters-spare, next-spare}
+use Rattle.ec_complete.proofs.ForLines.Below.{counters-spare, next-spare}
 use Rattle.ec_complete.proofs.line_counts.counters_are_spare.Goals as goal
 
 pub returns-clause-counters : goal.returns-clause-counters

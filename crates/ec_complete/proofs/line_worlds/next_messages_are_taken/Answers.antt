@@ -1,4 +1,4 @@
-use Rattle.ec_complete.proofs.Taking.{can-take-next}
+use Rattle.ec_complete.proofs.ForLines.Taking.{can-take-next}
 use Rattle.ec_complete.proofs.line_worlds.next_messages_are_taken.Goals as goal
 
 pub returns : goal.returns

@@ -1,4 +1,4 @@
-use Rattle.ec_complete.proofs.Quieting.{quiets}
+use Rattle.ec_complete.proofs.ForLines.Quieting.{quiets}
 use Rattle.ec_complete.proofs.quiet_worlds.idle_worlds_are_quiet.Goals as goal
 
 pub returns : goal.returns

@@ -1,4 +1,4 @@
-use Rattle.ec_complete.proofs.Going.{lines-go-on}
+use Rattle.ec_complete.proofs.ForFaultless.Going.{lines-go-on}
 use Rattle.ec_complete.proofs.RunsBehind.{runs-behind}
 use Rattle.ec_complete.proofs.scripts_behind.runs_write_behind.Goals as goal
 

@@ -1,10 +1,10 @@
 use Rattle.ec_machine_laws.proofs.Sent.{deliveries-count}
 use Rattle.ec_complete.proofs.OfAgreedLines.Worlds as clerks
-use Rattle.ec_complete.proofs.Taking.{can-take-next}
-use Rattle.ec_complete.proofs.Delivering.{lines-stay-on}
-use Rattle.ec_complete.proofs.Below.{counters-spare, next-spare}
-use Rattle.ec_complete.proofs.Given.{ids-stay-given}
-use Rattle.ec_complete.proofs.Settling.{all-go-on, all-settle, all-stay}
+use Rattle.ec_complete.proofs.ForLines.Taking.{can-take-next}
+use Rattle.ec_complete.proofs.ForLines.Delivering.{lines-stay-on}
+use Rattle.ec_complete.proofs.ForLines.Below.{counters-spare, next-spare}
+use Rattle.ec_complete.proofs.ForLines.Given.{ids-stay-given}
+use Rattle.ec_complete.proofs.ForFaultless.Settling.{all-go-on, all-settle, all-stay}
 use Rattle.ec_complete.proofs.settled_lines.lines_can_settle.Goals as goal
 
 pub returns-clause-known : goal.returns-clause-known

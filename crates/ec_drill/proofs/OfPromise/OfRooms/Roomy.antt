@@ -43,9 +43,9 @@ use Rattle.ec_coherence.specs.Steps.{Stands, call_of, doing_in, end_lines, less_
 use Rattle.ec_coherence.specs.StandLaws.{crashed, lined, stopped}
 use Rattle.ec_coherence.specs.Stops.{RunsOn}
 use Rattle.ec_coherence.specs.CommitLaws.{AllAgree}
-use Rattle.ec_coherence.proofs.Needs.{each-of}
-use Rattle.ec_coherence.proofs.Tables.{same_some}
-use Rattle.ec_lawful.proofs.OfClerkSteps.Steps.{step-most}
+use Rattle.ec_coherence.proofs.ForCommits.Needs.{each-of}
+use Rattle.ec_coherence.proofs.ForServer.Tables.{same_some}
+use Rattle.ec_lawful.proofs.OfClerkSteps.ForJoins.Steps.{step-most}
 use Rattle.ec_lawful.specs.Doubts.{ComesFrom, DoubtAgrees, doubted}
 use Rattle.ec_lawful.specs.Founds.{Makes, bare, found_ghost, started_in, with_found}
 use Rattle.ec_lawful.specs.Olds.{opened_in, opened_state}
@@ -53,17 +53,17 @@ use Rattle.ec_lawful.specs.Runs.{OfRun}
 use Rattle.ec_lawful.specs.Steps.{HoldsIn, StepIsDone, LineIsNew, IsServed, StepsKeep, clerk_begun, calling, in_call}
 use Rattle.ec_lawful.specs.Ties.{called, waiting}
 use Rattle.ec_lawful.proofs.Clerks.{clerks-keep-all}
-use Rattle.ec_lawful.proofs.Founds.{found-shown, steps-so}
-use Rattle.ec_lawful.proofs.Halts.{doubted-whole, found-whole, start-leaves, stopped-line-whole, up-whole}
-use Rattle.ec_lawful.proofs.Keeps.{doubts-hold, restarts-hold}
-use Rattle.ec_lawful.proofs.Opens.{world-stands}
-use Rattle.ec_lawful.proofs.OpensWhole.{opened-whole}
+use Rattle.ec_lawful.proofs.ForWhole.Founds.{found-shown, steps-so}
+use Rattle.ec_lawful.proofs.ForWhole.Halts.{doubted-whole, found-whole, start-leaves, stopped-line-whole, up-whole}
+use Rattle.ec_lawful.proofs.ForWhole.Keeps.{doubts-hold, restarts-hold}
+use Rattle.ec_lawful.proofs.ForWhole.Opens.{world-stands}
+use Rattle.ec_lawful.proofs.ForWhole.OpensWhole.{opened-whole}
 use Rattle.ec_lawful.proofs.Runs.{keep}
 use Rattle.ec_drill.specs.OfPromise.OfRooms.Rooms.{IsWithinRoom}
 use Rattle.ec_base.proofs.Options.{none_some}
 use Rattle.ec_history.proofs.HistoryLemmas.{each-more}
 use Rattle.ec_lawful.proofs.CallsShown.{each-line}
-use Rattle.ec_history.proofs.OfLaws.BasesAlike.{each-map}
+use Rattle.ec_history.proofs.OfLaws.ForPlacing.BasesAlike.{each-map}
 
 -- Lists.
 

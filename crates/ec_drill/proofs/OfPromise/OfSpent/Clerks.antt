@@ -24,9 +24,9 @@ use Rattle.ec_cache.specs.declared.resolve.verdict.Verdict.TheVariants.{Need, Lo
 use Rattle.ec_protocol.specs.Clerk.{Answered, Doing, Tried, Waits, answer_recalls, answer_with, ask_anew, ask_for, ask_pushes, ask_room, await, awaited, evict, evict_unpinned, give_back, has_session, is_owing, is_ready, is_settled, is_wanted, issue_if_room, keep_push, keep_recall, may_want, on_objects, send_backs, send_batch, send_picked, send_room, send_want, settle, settle_outcome, spend, suits, try, try_pushes, try_recalls, try_verdict, verdict, want, wanted, with_clerk, with_log, with_update}
 use Rattle.ec_protocol.specs.declared.clerk.Recalled.{Recalled}
 use Rattle.ec_protocol.specs.declared.clerk.Waiting.{Waiting}
-use Rattle.ec_coherence.proofs.Settling.{Keeping, settle-keeps}
-use Rattle.ec_coherence.proofs.Try.{OnTried}
-use Rattle.ec_coherence.proofs.TriedList.{same-verdict}
+use Rattle.ec_coherence.proofs.ForClerk.Settling.{Keeping, settle-keeps}
+use Rattle.ec_coherence.proofs.ForClerk.Try.{OnTried}
+use Rattle.ec_coherence.proofs.ForClerk.TriedList.{same-verdict}
 use Rattle.ec_drill.specs.OfPromise.OfSpent.SpentDrills.{most_lines}
 use Rattle.ec_drill.proofs.OfPromise.OfSpent.Few.{IsGoingCounts, counts, most_steps, unasked}
 use Rattle.ec_drill.proofs.OfPromise.OfSpent.Windows.{begins, has-room, least-begun}

@@ -12,10 +12,10 @@ use Rattle.ec_history.specs.declared.entry.Answer.{Answer}
 use Rattle.ec_history.specs.declared.entry.Entry.TheVariants as entry
 use Rattle.ec_history.specs.declared.shown.Shown.{Shown}
 use Rattle.ec_history.specs.declared.shown.Shown.TheVariants.{Answered, Ended}
-use Rattle.ec_history.proofs.OfLaws.Cuts.{legal-split, legal-step, throughout-back}
-use Rattle.ec_history.proofs.OfLaws.Held.{place-late, place-other}
-use Rattle.ec_history.proofs.OfLaws.Late.{ops_in-append, place-answer, place-ended, still-held}
-use Rattle.ec_history.proofs.OfLaws.Watching.{untold-runs}
+use Rattle.ec_history.proofs.OfLaws.ForPlacing.Cuts.{legal-split, legal-step, throughout-back}
+use Rattle.ec_history.proofs.OfLaws.ForPlacing.Held.{place-late, place-other}
+use Rattle.ec_history.proofs.OfLaws.ForPlacing.Late.{ops_in-append, place-answer, place-ended, still-held}
+use Rattle.ec_history.proofs.OfLaws.ForPlacing.Watching.{untold-runs}
 use Rattle.ec_history.specs.OfLaws.OfPrinted.Printed.{AreTimely, IsBare, IsTimely, TimelyAreLegal, printed_from}
 use Rattle.ec_history.proofs.OfLaws.OfPrinted.Moved.{E, IsMoved, legal-moved, moved-next, moved-none, moved-on}
 use Rattle.ec_history.proofs.OfLaws.OfPrinted.Bare as bare

@@ -16,11 +16,11 @@ use Rattle.ec_history.specs.declared.entry.Answer.{Answer}
 use Rattle.ec_history.specs.declared.entry.Answer.TheVariants as answer
 use Rattle.ec_history.specs.declared.entry.Entry.{Entry}
 use Rattle.ec_history.specs.declared.entry.Entry.TheVariants as entry
-use Rattle.ec_history.proofs.OfLaws.Cuts.{throughout-append, throughout-back, throughout-front}
-use Rattle.ec_history.proofs.OfLaws.More.{kept-step, issued-step, owed-step, is_lost-append, count-step}
-use Rattle.ec_history.proofs.OfLaws.Numbers.{count}
-use Rattle.ec_history.proofs.OfLaws.BasesAlike.{each-map}
-use Rattle.ec_history.proofs.OfLaws.Beside.{asks_at}
+use Rattle.ec_history.proofs.OfLaws.ForPlacing.Cuts.{throughout-append, throughout-back, throughout-front}
+use Rattle.ec_history.proofs.OfLaws.ForPlacing.More.{kept-step, issued-step, owed-step, is_lost-append, count-step}
+use Rattle.ec_history.proofs.OfLaws.ForPlacing.Numbers.{count}
+use Rattle.ec_history.proofs.OfLaws.ForPlacing.BasesAlike.{each-map}
+use Rattle.ec_history.proofs.OfLaws.ForPlacing.Beside.{asks_at}
 
 abbrev pub E : Type 0
 E = ℕ × Entry

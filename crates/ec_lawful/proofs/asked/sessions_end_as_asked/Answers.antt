@@ -1,8 +1,8 @@
 use Rattle.std.proofs.Common.{refl}
-use Rattle.ec_lawful.proofs.EventsAsk.{event-asks}
-use Rattle.ec_lawful.proofs.Opened.{opened-agrees, opened-asks}
-use Rattle.ec_lawful.proofs.ServingAsks.{restart-asks}
-use Rattle.ec_lawful.proofs.Shown.{asked-show}
+use Rattle.ec_lawful.proofs.ForAsked.EventsAsk.{event-asks}
+use Rattle.ec_lawful.proofs.ForAsked.Opened.{opened-agrees, opened-asks}
+use Rattle.ec_lawful.proofs.ForAsked.ServingAsks.{restart-asks}
+use Rattle.ec_lawful.proofs.ForAsked.Shown.{asked-show}
 use Rattle.ec_lawful.proofs.asked.sessions_end_as_asked.Goals as goal
 
 pub returns-clause-opening : goal.returns-clause-opening

@@ -2,8 +2,8 @@ use Rattle.std.specs.List.{list_any}
 use Rattle.std.specs.Prelude.{◌+◌}
 use Rattle.ec_protocol.specs.Clerk.{begin}
 use Rattle.ec_protocol.specs.World.{is_answer_to}
-use Rattle.ec_lawful.proofs.Called.{begun-cuts, has-begun}
-use Rattle.ec_lawful.proofs.First.{first-begun, first-counts, first-cuts}
+use Rattle.ec_lawful.proofs.ForBegins.Called.{begun-cuts, has-begun}
+use Rattle.ec_lawful.proofs.ForBegins.First.{first-begun, first-counts, first-cuts}
 use Rattle.ec_lawful.proofs.begins.calls_have_begun.Goals as goal
 
 pub returns-clause-call : goal.returns-clause-call

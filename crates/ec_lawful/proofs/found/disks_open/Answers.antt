@@ -1,6 +1,6 @@
-use Rattle.ec_lawful.proofs.Olds.{opened-all}
-use Rattle.ec_lawful.proofs.Opens.{world-stands}
-use Rattle.ec_lawful.proofs.Volumes.{entries-known, known-id, volumes-are-bases, volumes-have-greatest}
+use Rattle.ec_lawful.proofs.ForWhole.Olds.{opened-all}
+use Rattle.ec_lawful.proofs.ForWhole.Opens.{world-stands}
+use Rattle.ec_lawful.proofs.ForWhole.Volumes.{entries-known, known-id, volumes-are-bases, volumes-have-greatest}
 use Rattle.ec_lawful.proofs.found.disks_open.Goals as goal
 
 pub returns-clause-opens : goal.returns-clause-opens

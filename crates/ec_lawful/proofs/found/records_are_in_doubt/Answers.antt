@@ -1,5 +1,5 @@
-use Rattle.ec_lawful.proofs.Doubted.{doubted-all, doubted-from}
-use Rattle.ec_lawful.proofs.From.{doubts-stay, ends-from, takes-from}
+use Rattle.ec_lawful.proofs.ForWhole.Doubted.{doubted-all, doubted-from}
+use Rattle.ec_lawful.proofs.ForWhole.From.{doubts-stay, ends-from, takes-from}
 use Rattle.ec_lawful.proofs.found.records_are_in_doubt.Goals as goal
 
 pub returns-clause-stop : goal.returns-clause-stop

@@ -1,6 +1,6 @@
-use Rattle.ec_lawful.proofs.Founds.{found-shown, founds-make, founds-stand, steps-so}
-use Rattle.ec_lawful.proofs.Restarts.{restart-stands}
-use Rattle.ec_lawful.proofs.Ups.{bare-all}
+use Rattle.ec_lawful.proofs.ForWhole.Founds.{found-shown, founds-make, founds-stand, steps-so}
+use Rattle.ec_lawful.proofs.ForWhole.Restarts.{restart-stands}
+use Rattle.ec_lawful.proofs.ForWhole.Ups.{bare-all}
 use Rattle.ec_lawful.proofs.found.restarts_stand.Goals as goal
 
 pub returns-clause-bare : goal.returns-clause-bare

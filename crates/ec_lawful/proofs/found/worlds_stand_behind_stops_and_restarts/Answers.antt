@@ -1,4 +1,4 @@
-use Rattle.ec_lawful.proofs.Fates.{state-is, stopped-with, stopped-without, up-stands, with-it, without}
+use Rattle.ec_lawful.proofs.ForWhole.Fates.{state-is, stopped-with, stopped-without, up-stands, with-it, without}
 use Rattle.ec_lawful.proofs.found.worlds_stand_behind_stops_and_restarts.Goals as goal
 
 pub returns-clause-stops : goal.returns-clause-stops

@@ -1,6 +1,6 @@
-use Rattle.ec_lawful.proofs.FreshAnswered.{answers-fresh}
-use Rattle.ec_lawful.proofs.FreshBegins.{begins-fresh}
-use Rattle.ec_lawful.proofs.Goes.{goes-fresh}
+use Rattle.ec_lawful.proofs.ForAsked.FreshAnswered.{answers-fresh}
+use Rattle.ec_lawful.proofs.ForWhole.FreshBegins.{begins-fresh}
+use Rattle.ec_lawful.proofs.ForWhole.Goes.{goes-fresh}
 use Rattle.ec_lawful.proofs.fresh.ids_stay_fresh.Goals as goal
 
 pub returns-clause-begin : goal.returns-clause-begin

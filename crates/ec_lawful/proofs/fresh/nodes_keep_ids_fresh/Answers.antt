@@ -1,6 +1,6 @@
-use Rattle.ec_lawful.proofs.FreshAnswering.{answer-fresh-step}
-use Rattle.ec_lawful.proofs.Ids.{ids-fresh}
-use Rattle.ec_lawful.proofs.FreshSteps.{record-fresh, start-fresh}
+use Rattle.ec_lawful.proofs.ForAsked.FreshAnswering.{answer-fresh-step}
+use Rattle.ec_lawful.proofs.ForBegins.Ids.{ids-fresh}
+use Rattle.ec_lawful.proofs.ForWhole.FreshSteps.{record-fresh, start-fresh}
 use Rattle.ec_lawful.proofs.fresh.nodes_keep_ids_fresh.Goals as goal
 
 pub returns-clause-starts : goal.returns-clause-starts

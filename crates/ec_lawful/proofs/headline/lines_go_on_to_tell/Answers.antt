@@ -1,4 +1,4 @@
-use Rattle.ec_lawful.proofs.LinesTell.{line-tells, nothing-tells-all, quiet-tells}
+use Rattle.ec_lawful.proofs.ForWhole.LinesTell.{line-tells, nothing-tells-all, quiet-tells}
 use Rattle.ec_lawful.proofs.headline.lines_go_on_to_tell.Goals as goal
 
 pub returns-clause-nothing : goal.returns-clause-nothing

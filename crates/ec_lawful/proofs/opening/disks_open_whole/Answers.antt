@@ -1,5 +1,5 @@
-use Rattle.ec_lawful.proofs.Opens.{world-stands}
-use Rattle.ec_lawful.proofs.OpensWhole.{opened-whole}
+use Rattle.ec_lawful.proofs.ForWhole.Opens.{world-stands}
+use Rattle.ec_lawful.proofs.ForWhole.OpensWhole.{opened-whole}
 use Rattle.ec_lawful.proofs.opening.disks_open_whole.Goals as goal
 
 pub returns : goal.returns

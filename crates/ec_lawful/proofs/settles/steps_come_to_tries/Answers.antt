@@ -1,7 +1,7 @@
-use Rattle.ec_lawful.proofs.Beginning.{begins, begins-pushed}
-use Rattle.ec_lawful.proofs.Plains.{plains-keep}
-use Rattle.ec_lawful.proofs.Readying.{evicts-lined, prepares, prepares-call}
-use Rattle.ec_lawful.proofs.Waiting.{waits-stand}
+use Rattle.ec_lawful.proofs.ForBegins.Beginning.{begins, begins-pushed}
+use Rattle.ec_lawful.proofs.ForBegins.Plains.{plains-keep}
+use Rattle.ec_lawful.proofs.ForBegins.Readying.{evicts-lined, prepares, prepares-call}
+use Rattle.ec_lawful.proofs.ForBegins.Waiting.{waits-stand}
 use Rattle.ec_lawful.proofs.settles.steps_come_to_tries.Goals as goal
 
 pub returns-clause-begin : goal.returns-clause-begin

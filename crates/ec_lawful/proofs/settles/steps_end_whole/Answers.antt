@@ -1,10 +1,10 @@
 use Rattle.ec_protocol.specs.Clerk.{resend}
 use Rattle.ec_coherence.specs.Steps.{sends}
-use Rattle.ec_coherence.proofs.Lists.{each-more}
-use Rattle.ec_lawful.proofs.Ending.{steps-end}
-use Rattle.ec_lawful.proofs.Resending.{resends-keep}
+use Rattle.ec_coherence.proofs.ForServer.Lists.{each-more}
+use Rattle.ec_lawful.proofs.ForBegins.Ending.{steps-end}
+use Rattle.ec_lawful.proofs.ForBegins.Resending.{resends-keep}
 use Rattle.ec_lawful.specs.OfClerkSteps.Fulls.{IsFullAt}
-use Rattle.ec_lawful.proofs.OfClerkSteps.Sent.{own-full, resend-own}
+use Rattle.ec_lawful.proofs.OfClerkSteps.ForNames.Sent.{own-full, resend-own}
 use Rattle.ec_lawful.proofs.settles.steps_end_whole.Goals as goal
 
 pub returns-clause-end : goal.returns-clause-end

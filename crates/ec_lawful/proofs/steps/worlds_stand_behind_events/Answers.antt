@@ -1,6 +1,6 @@
-use Rattle.ec_lawful.proofs.Frames.{called-stands, crashed-stands, forgotten-stands, nothing-stands, settled-stands, stopped-stands}
-use Rattle.ec_lawful.proofs.Serving.{served-stands}
-use Rattle.ec_lawful.proofs.Standing.{done-stands}
+use Rattle.ec_lawful.proofs.ForWhole.Frames.{called-stands, crashed-stands, forgotten-stands, nothing-stands, settled-stands, stopped-stands}
+use Rattle.ec_lawful.proofs.ForWhole.Serving.{served-stands}
+use Rattle.ec_lawful.proofs.ForWhole.Standing.{done-stands}
 use Rattle.ec_lawful.proofs.steps.worlds_stand_behind_events.Goals as goal
 
 pub returns-clause-served : goal.returns-clause-served

@@ -1,4 +1,4 @@
-use Rattle.ec_lawful.proofs.Halts.{crashed-whole, nothing-whole, unsettled-whole}
+use Rattle.ec_lawful.proofs.ForWhole.Halts.{crashed-whole, nothing-whole, unsettled-whole}
 use Rattle.ec_lawful.proofs.whole.crashes_keep_all_facts.Goals as goal
 
 pub returns-clause-crashes : goal.returns-clause-crashes

@@ -1,4 +1,4 @@
-use Rattle.ec_lawful.proofs.Server.{ends-whole, takes-whole}
+use Rattle.ec_lawful.proofs.ForWhole.Server.{ends-whole, takes-whole}
 use Rattle.ec_lawful.proofs.whole.servers_keep_all_facts.Goals as goal
 
 pub returns : goal.returns

@@ -1,4 +1,4 @@
-use Rattle.ec_lawful.proofs.WholeFates.{doubts-keep, restarts-keep, stops-keep}
+use Rattle.ec_lawful.proofs.ForWhole.WholeFates.{doubts-keep, restarts-keep, stops-keep}
 use Rattle.ec_lawful.proofs.whole.stops_and_restarts_keep_all_facts.Goals as goal
 
 pub returns-clause-stops : goal.returns-clause-stops

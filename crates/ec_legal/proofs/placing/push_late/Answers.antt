@@ -3,7 +3,7 @@ use Rattle.ec_history.specs.Placing.{late, ops_in}
 use Rattle.ec_legal.specs.Watches.{own_call}
 use Rattle.ec_legal.proofs.Late.{late-step, held-step, carry}
 use Rattle.ec_legal.proofs.placing.push_late.Goals as goal
-use Rattle.ec_history.proofs.OfLaws.Late.{ops_in-append as ops-append}
+use Rattle.ec_history.proofs.OfLaws.ForPlacing.Late.{ops_in-append as ops-append}
 
 pub loop-at-preserved : goal.loop-at-preserved
 loop-at-preserved c =

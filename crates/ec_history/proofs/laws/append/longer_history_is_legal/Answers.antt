@@ -1,4 +1,4 @@
-use Rattle.ec_history.proofs.OfLaws.Cuts.{legal-step, legal-append, legal-split}
+use Rattle.ec_history.proofs.OfLaws.ForPlacing.Cuts.{legal-step, legal-append, legal-split}
 use Rattle.ec_history.proofs.laws.append.longer_history_is_legal.Goals as goal
 
 pub returns-clause-one_more : goal.returns-clause-one_more

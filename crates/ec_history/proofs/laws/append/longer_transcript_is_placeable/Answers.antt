@@ -1,4 +1,4 @@
-use Rattle.ec_history.proofs.OfLaws.Cuts.{placeable-step, placeable-join, placeable-split}
+use Rattle.ec_history.proofs.OfLaws.ForPlacing.Cuts.{placeable-step, placeable-join, placeable-split}
 use Rattle.ec_history.proofs.laws.append.longer_transcript_is_placeable.Goals as goal
 
 pub returns-clause-one_more : goal.returns-clause-one_more

@@ -1,4 +1,4 @@
-use Rattle.ec_history.proofs.OfLaws.Least.{closure-needed, closure-within}
+use Rattle.ec_history.proofs.OfLaws.ForPlacing.Least.{closure-needed, closure-within}
 use Rattle.ec_history.proofs.laws.closure.closure_holds_its_needs.Goals as goal
 
 pub returns-clause-needs : goal.returns-clause-needs

@@ -1,4 +1,4 @@
-use Rattle.ec_history.proofs.OfLaws.Least.{list-complete, list-least, list-part, list-sorted}
+use Rattle.ec_history.proofs.OfLaws.ForPlacing.Least.{list-complete, list-least, list-part, list-sorted}
 use Rattle.ec_history.proofs.laws.closure.closure_lists_the_least_set.Goals as goal
 
 pub returns-clause-all : goal.returns-clause-all

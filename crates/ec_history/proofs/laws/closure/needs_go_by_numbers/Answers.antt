@@ -1,4 +1,4 @@
-use Rattle.ec_history.proofs.OfLaws.Least.{needed-by_number, needed-from_numbers}
+use Rattle.ec_history.proofs.OfLaws.ForPlacing.Least.{needed-by_number, needed-from_numbers}
 use Rattle.ec_history.proofs.laws.closure.needs_go_by_numbers.Goals as goal
 
 pub returns-clause-by : goal.returns-clause-by

@@ -1,4 +1,4 @@
-use Rattle.ec_history.proofs.OfLaws.Parts.{needs-part, needs-minus, needs-joined}
+use Rattle.ec_history.proofs.OfLaws.ForPlacing.Parts.{needs-part, needs-minus, needs-joined}
 use Rattle.ec_history.proofs.laws.closure.parts_hold_their_needs.Goals as goal
 
 pub returns-clause-part : goal.returns-clause-part

@@ -1,5 +1,5 @@
-use Rattle.ec_history.proofs.OfLaws.Renamed.{rename-fine}
-use Rattle.ec_history.proofs.OfLaws.Planned.{call-fine}
+use Rattle.ec_history.proofs.OfLaws.ForFormed.Renamed.{rename-fine}
+use Rattle.ec_history.proofs.OfLaws.ForFormed.Planned.{call-fine}
 use Rattle.ec_history.proofs.laws.formed_calls.calls_make_fitting_updates.Goals as goal
 
 pub returns-clause-sound : goal.returns-clause-sound

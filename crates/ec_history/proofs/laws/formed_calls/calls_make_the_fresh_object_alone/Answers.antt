@@ -1,4 +1,4 @@
-use Rattle.ec_history.proofs.OfLaws.Fresh.{gone-stays, plain-makes}
+use Rattle.ec_history.proofs.OfLaws.ForFormed.Fresh.{gone-stays, plain-makes}
 use Rattle.ec_history.proofs.laws.formed_calls.calls_make_the_fresh_object_alone.Goals as goal
 
 pub returns : goal.returns

@@ -1,16 +1,16 @@
 use Rattle.std.proofs.Common.{arith}
 use Rattle.ec_volume.specs.Volume.{formatted, Fits}
 use Rattle.ec_history.specs.Legal.{IsLegal}
-use Rattle.ec_history.proofs.OfLaws.Objects.{fits-tried}
+use Rattle.ec_history.proofs.OfLaws.ForPlacing.Objects.{fits-tried}
 use Rattle.ec_history.specs.OfLaws.Example.{two_files, writes}
 use Rattle.ec_history.specs.OfLaws.Bases.{AreAtLines}
 use Rattle.ec_history.specs.OfLaws.FormedExample.{building}
-use Rattle.ec_history.proofs.OfLaws.Formatted.{formatted-formed, formatted-reached}
-use Rattle.ec_history.proofs.OfLaws.KeptFormed.{kept-formed, kept-held}
-use Rattle.ec_history.proofs.OfLaws.Laws.{kept-reached, call-sound, call-fits}
-use Rattle.ec_history.proofs.OfLaws.Keeping.{whole}
-use Rattle.ec_history.proofs.OfLaws.Bases.{base-formatted, base-files}
-use Rattle.ec_history.proofs.OfLaws.Ring.{base-ring, ring-unreached}
+use Rattle.ec_history.proofs.OfLaws.ForFormed.Formatted.{formatted-formed, formatted-reached}
+use Rattle.ec_history.proofs.OfLaws.ForFormed.KeptFormed.{kept-formed, kept-held}
+use Rattle.ec_history.proofs.OfLaws.ForFormed.Laws.{kept-reached, call-sound, call-fits}
+use Rattle.ec_history.proofs.OfLaws.ForFormed.Keeping.{whole}
+use Rattle.ec_history.proofs.OfLaws.ForFormed.Bases.{base-formatted, base-files}
+use Rattle.ec_history.proofs.OfLaws.ForFormed.Ring.{base-ring, ring-unreached}
 use Rattle.ec_history.proofs.laws.formed_example.formed_premises_can_be_met.Goals as goal
 
 pub returns-clause-built : goal.returns-clause-built

@@ -1,4 +1,4 @@
-use Rattle.ec_history.proofs.OfLaws.Bases.{base-formatted}
+use Rattle.ec_history.proofs.OfLaws.ForFormed.Bases.{base-formatted}
 use Rattle.ec_history.proofs.laws.formed_histories.formatted_is_a_base.Goals as goal
 
 pub returns : goal.returns

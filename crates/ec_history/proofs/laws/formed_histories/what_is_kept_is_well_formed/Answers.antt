@@ -1,6 +1,6 @@
-use Rattle.ec_history.proofs.OfLaws.KeptFormed.{kept-formed, kept-held}
-use Rattle.ec_history.proofs.OfLaws.Laws.{kept-reached, call-sound, call-fits}
-use Rattle.ec_history.proofs.OfLaws.Keeping.{throughout, whole, placed}
+use Rattle.ec_history.proofs.OfLaws.ForFormed.KeptFormed.{kept-formed, kept-held}
+use Rattle.ec_history.proofs.OfLaws.ForFormed.Laws.{kept-reached, call-sound, call-fits}
+use Rattle.ec_history.proofs.OfLaws.ForFormed.Keeping.{throughout, whole, placed}
 use Rattle.ec_history.proofs.laws.formed_histories.what_is_kept_is_well_formed.Goals as goal
 
 pub returns-clause-throughout : goal.returns-clause-throughout

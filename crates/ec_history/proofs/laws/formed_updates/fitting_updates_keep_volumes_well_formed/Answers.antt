@@ -1,5 +1,5 @@
-use Rattle.ec_history.proofs.OfLaws.KeptFormed.{kept-formed, kept-held}
-use Rattle.ec_history.proofs.OfLaws.Laws.{kept-reached}
+use Rattle.ec_history.proofs.OfLaws.ForFormed.KeptFormed.{kept-formed, kept-held}
+use Rattle.ec_history.proofs.OfLaws.ForFormed.Laws.{kept-reached}
 use Rattle.ec_history.proofs.laws.formed_updates.fitting_updates_keep_volumes_well_formed.Goals as goal
 
 pub returns-clause-formed : goal.returns-clause-formed

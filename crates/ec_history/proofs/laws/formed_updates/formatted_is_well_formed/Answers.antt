@@ -1,4 +1,4 @@
-use Rattle.ec_history.proofs.OfLaws.Formatted.{formatted-formed, formatted-reached, formatted-held}
+use Rattle.ec_history.proofs.OfLaws.ForFormed.Formatted.{formatted-formed, formatted-reached, formatted-held}
 use Rattle.ec_history.proofs.laws.formed_updates.formatted_is_well_formed.Goals as goal
 
 pub returns-clause-formed : goal.returns-clause-formed

@@ -1,4 +1,4 @@
-use Rattle.ec_history.proofs.OfLaws.Taken.{taken-covered}
+use Rattle.ec_history.proofs.OfLaws.ForPlacing.Taken.{taken-covered}
 use Rattle.ec_history.proofs.laws.insertion.late_call_is_covered.Goals as goal
 
 pub returns : goal.returns

@@ -1,4 +1,4 @@
-use Rattle.ec_history.proofs.OfLaws.Taken.{taken-keeps, taken-issues, taken-owes, taken-owes_others}
+use Rattle.ec_history.proofs.OfLaws.ForPlacing.Taken.{taken-keeps, taken-issues, taken-owes, taken-owes_others}
 use Rattle.ec_history.proofs.laws.insertion.late_call_is_lost.Goals as goal
 
 pub returns-clause-keeps : goal.returns-clause-keeps

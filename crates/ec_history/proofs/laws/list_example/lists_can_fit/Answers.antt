@@ -1,6 +1,6 @@
 use Rattle.std.proofs.Common.{refl, []}
 use Rattle.ec_history.specs.OfLaws.ListExample.{early, make_g}
-use Rattle.ec_history.proofs.OfLaws.Objects.{strangers}
+use Rattle.ec_history.proofs.OfLaws.ForPlacing.Objects.{strangers}
 use Rattle.ec_history.proofs.laws.list_example.lists_can_fit.Goals as goal
 
 pub returns-clause-equal : goal.returns-clause-equal

@@ -1,4 +1,4 @@
-use Rattle.ec_history.proofs.OfLaws.IdleIds.{covered-so, legal-so, stored-so}
+use Rattle.ec_history.proofs.OfLaws.ForRenamed.IdleIds.{covered-so, legal-so, stored-so}
 use Rattle.ec_history.proofs.laws.new_ids.idle_ids_may_change.Goals as goal
 
 pub returns : goal.returns

@@ -1,4 +1,4 @@
-use Rattle.ec_history.proofs.OfLaws.Placed.{covered-there, fits-there, legal-there, stored-there}
+use Rattle.ec_history.proofs.OfLaws.ForRenamed.Placed.{covered-there, fits-there, legal-there, stored-there}
 use Rattle.ec_history.proofs.laws.new_ids.new_ids_are_places.Goals as goal
 
 pub returns : goal.returns

@@ -1,4 +1,4 @@
-use Rattle.ec_history.proofs.OfLaws.Reading.{read-by-places}
+use Rattle.ec_history.proofs.OfLaws.ForRenamed.Reading.{read-by-places}
 use Rattle.ec_history.proofs.laws.new_ids.new_ids_are_read.Goals as goal
 
 pub returns : goal.returns

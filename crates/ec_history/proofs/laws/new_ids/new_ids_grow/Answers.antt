@@ -1,4 +1,4 @@
-use Rattle.ec_history.proofs.OfLaws.Grown.{grows}
+use Rattle.ec_history.proofs.OfLaws.ForRenamed.Grown.{grows}
 use Rattle.ec_history.proofs.laws.new_ids.new_ids_grow.Goals as goal
 
 pub returns : goal.returns

@@ -1,5 +1,5 @@
-use Rattle.ec_history.proofs.OfLaws.Overwriting.{effects-commute, fit-both}
-use Rattle.ec_history.proofs.OfLaws.Ranges.{ranges-commute}
+use Rattle.ec_history.proofs.OfLaws.ForPlacing.Overwriting.{effects-commute, fit-both}
+use Rattle.ec_history.proofs.OfLaws.ForPlacing.Ranges.{ranges-commute}
 use Rattle.ec_history.proofs.laws.overwrites.overwrites_change_places.Goals as goal
 
 pub returns-clause-effects : goal.returns-clause-effects

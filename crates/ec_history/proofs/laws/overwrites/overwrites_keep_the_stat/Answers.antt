@@ -1,4 +1,4 @@
-use Rattle.ec_history.proofs.OfLaws.Overwriting.{overwrite-file, overwrite-kind, overwrite-stat, overwrite-length}
+use Rattle.ec_history.proofs.OfLaws.ForPlacing.Overwriting.{overwrite-file, overwrite-kind, overwrite-stat, overwrite-length}
 use Rattle.ec_history.proofs.laws.overwrites.overwrites_keep_the_stat.Goals as goal
 
 pub returns-clause-file : goal.returns-clause-file

@@ -1,4 +1,4 @@
-use Rattle.ec_history.proofs.OfLaws.Overwriting.{meet-place, meet-from}
+use Rattle.ec_history.proofs.OfLaws.ForPlacing.Overwriting.{meet-place, meet-from}
 use Rattle.ec_history.proofs.laws.overwrites.ranges_meet_at_a_place.Goals as goal
 
 pub returns-clause-place : goal.returns-clause-place

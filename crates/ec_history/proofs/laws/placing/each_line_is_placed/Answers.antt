@@ -1,5 +1,5 @@
-use Rattle.ec_history.proofs.OfLaws.Late.{place-answer, place-ended}
-use Rattle.ec_history.proofs.OfLaws.Held.{place-late, place-other}
+use Rattle.ec_history.proofs.OfLaws.ForPlacing.Late.{place-answer, place-ended}
+use Rattle.ec_history.proofs.OfLaws.ForPlacing.Held.{place-late, place-other}
 use Rattle.ec_history.proofs.laws.placing.each_line_is_placed.Goals as goal
 
 pub returns-clause-answer : goal.returns-clause-answer

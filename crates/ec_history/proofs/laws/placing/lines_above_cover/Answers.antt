@@ -1,4 +1,4 @@
-use Rattle.ec_history.proofs.OfLaws.Places.{covered-longer}
+use Rattle.ec_history.proofs.OfLaws.ForPlacing.Places.{covered-longer}
 use Rattle.ec_history.proofs.laws.placing.lines_above_cover.Goals as goal
 
 pub returns : goal.returns

@@ -1,4 +1,4 @@
-use Rattle.ec_history.proofs.OfLaws.Places.{places-within, places-distinct}
+use Rattle.ec_history.proofs.OfLaws.ForPlacing.Places.{places-within, places-distinct}
 use Rattle.ec_history.proofs.laws.placing.places_are_distinct.Goals as goal
 
 pub returns-clause-within : goal.returns-clause-within

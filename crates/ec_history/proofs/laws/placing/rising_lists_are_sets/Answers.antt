@@ -1,4 +1,4 @@
-use Rattle.ec_history.proofs.OfLaws.Sets.{same-self, rising-same}
+use Rattle.ec_history.proofs.OfLaws.ForPlacing.Sets.{same-self, rising-same}
 use Rattle.ec_history.proofs.laws.placing.rising_lists_are_sets.Goals as goal
 
 pub returns-clause-own : goal.returns-clause-own

@@ -1,4 +1,4 @@
-use Rattle.ec_history.proofs.OfLaws.Watching.{closed-undurable, untold-runs, running-counted, open-counted}
+use Rattle.ec_history.proofs.OfLaws.ForPlacing.Watching.{closed-undurable, untold-runs, running-counted, open-counted}
 use Rattle.ec_history.proofs.laws.placing.watched_starts_are_counted.Goals as goal
 
 pub returns-clause-untold : goal.returns-clause-untold

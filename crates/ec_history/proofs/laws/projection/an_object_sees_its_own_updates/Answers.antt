@@ -1,4 +1,4 @@
-use Rattle.ec_history.proofs.OfLaws.Objects.{projection, projection-fits, stays, fits-elsewhere}
+use Rattle.ec_history.proofs.OfLaws.ForPlacing.Objects.{projection, projection-fits, stays, fits-elsewhere}
 use Rattle.ec_history.proofs.laws.projection.an_object_sees_its_own_updates.Goals as goal
 
 pub returns-clause-leave : goal.returns-clause-leave

@@ -1,4 +1,4 @@
-use Rattle.ec_history.proofs.OfLaws.Objects.{after-same, fits-same}
+use Rattle.ec_history.proofs.OfLaws.ForPlacing.Objects.{after-same, fits-same}
 use Rattle.ec_history.proofs.laws.projection.equal_projections_are_enough.Goals as goal
 
 pub returns-clause-leave : goal.returns-clause-leave

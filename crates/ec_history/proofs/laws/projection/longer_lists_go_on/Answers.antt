@@ -1,4 +1,4 @@
-use Rattle.ec_history.proofs.OfLaws.Objects.{fits-next}
+use Rattle.ec_history.proofs.OfLaws.ForPlacing.Objects.{fits-next}
 use Rattle.ec_history.proofs.laws.projection.longer_lists_go_on.Goals as goal
 use Rattle.ec_volume.proofs.Fitting.{image_joined as after-append, turns_joined as fits-append}
 

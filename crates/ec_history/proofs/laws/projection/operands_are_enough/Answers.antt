@@ -1,4 +1,4 @@
-use Rattle.ec_history.proofs.OfLaws.Objects.{fits-operands, fits-tried}
+use Rattle.ec_history.proofs.OfLaws.ForPlacing.Objects.{fits-operands, fits-tried}
 use Rattle.ec_history.proofs.laws.projection.operands_are_enough.Goals as goal
 
 pub returns-clause-one : goal.returns-clause-one

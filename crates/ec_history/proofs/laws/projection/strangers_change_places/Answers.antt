@@ -1,4 +1,4 @@
-use Rattle.ec_history.proofs.OfLaws.Objects.{strangers-after, strangers-fit}
+use Rattle.ec_history.proofs.OfLaws.ForPlacing.Objects.{strangers-after, strangers-fit}
 use Rattle.ec_history.proofs.laws.projection.strangers_change_places.Goals as goal
 
 pub returns-clause-leave : goal.returns-clause-leave

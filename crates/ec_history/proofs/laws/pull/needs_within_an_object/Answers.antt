@@ -1,4 +1,4 @@
-use Rattle.ec_history.proofs.OfLaws.Pulled.{needs-common, needs-strangers}
+use Rattle.ec_history.proofs.OfLaws.ForPlacing.Pulled.{needs-common, needs-strangers}
 use Rattle.ec_history.proofs.laws.pull.needs_within_an_object.Goals as goal
 
 pub returns-clause-common : goal.returns-clause-common

@@ -1,4 +1,4 @@
-use Rattle.ec_history.proofs.OfLaws.Pulled.{pulled-after, pulled-fits, pulled-alone}
+use Rattle.ec_history.proofs.OfLaws.ForPlacing.Pulled.{pulled-after, pulled-fits, pulled-alone}
 use Rattle.ec_history.proofs.laws.pull.what_holds_its_needs_comes_first.Goals as goal
 
 pub returns-clause-leave : goal.returns-clause-leave

@@ -1,4 +1,4 @@
-use Rattle.ec_history.proofs.OfLaws.Pulled.{next-after, next-fits}
+use Rattle.ec_history.proofs.OfLaws.ForPlacing.Pulled.{next-after, next-fits}
 use Rattle.ec_history.proofs.laws.pull.what_holds_its_needs_comes_next.Goals as goal
 
 pub returns-clause-leave : goal.returns-clause-leave

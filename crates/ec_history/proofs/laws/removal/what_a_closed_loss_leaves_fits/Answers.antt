@@ -1,4 +1,4 @@
-use Rattle.ec_history.proofs.OfLaws.Removed.{removal-on, removal, removal-rest}
+use Rattle.ec_history.proofs.OfLaws.ForPlacing.Removed.{removal-on, removal, removal-rest}
 use Rattle.ec_history.proofs.laws.removal.what_a_closed_loss_leaves_fits.Goals as goal
 
 pub returns-clause-object : goal.returns-clause-object

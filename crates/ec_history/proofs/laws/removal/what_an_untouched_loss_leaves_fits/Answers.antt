@@ -1,4 +1,4 @@
-use Rattle.ec_history.proofs.OfLaws.Left.{loss-fits, lawful-fits, loss-kept}
+use Rattle.ec_history.proofs.OfLaws.ForPlacing.Left.{loss-fits, lawful-fits, loss-kept}
 use Rattle.ec_history.proofs.laws.removal.what_an_untouched_loss_leaves_fits.Goals as goal
 
 pub returns-clause-without : goal.returns-clause-without

@@ -1,4 +1,4 @@
-use Rattle.ec_history.proofs.OfLaws.Left.{call-kept, legal-kept}
+use Rattle.ec_history.proofs.OfLaws.ForPlacing.Left.{call-kept, legal-kept}
 use Rattle.ec_history.proofs.laws.removal.what_is_kept_fits.Goals as goal
 
 pub returns-clause-call : goal.returns-clause-call

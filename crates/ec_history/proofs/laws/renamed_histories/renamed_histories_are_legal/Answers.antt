@@ -1,5 +1,5 @@
-use Rattle.ec_history.proofs.OfLaws.BasesAlike.{turned, legal-as}
-use Rattle.ec_history.proofs.OfLaws.Agreeing.{renamed-agree}
+use Rattle.ec_history.proofs.OfLaws.ForPlacing.BasesAlike.{turned, legal-as}
+use Rattle.ec_history.proofs.OfLaws.ForRenamed.Agreeing.{renamed-agree}
 use Rattle.ec_history.proofs.laws.renamed_histories.renamed_histories_are_legal.Goals as goal
 
 pub returns-clause-legal : goal.returns-clause-legal

@@ -1,4 +1,4 @@
-use Rattle.ec_history.proofs.OfLaws.RenamedKept.{kept-at, issues-at, touched-now}
+use Rattle.ec_history.proofs.OfLaws.ForRenamed.RenamedKept.{kept-at, issues-at, touched-now}
 use Rattle.ec_history.proofs.laws.renamed_histories.renamed_histories_keep_the_same.Goals as goal
 
 pub returns-clause-kept : goal.returns-clause-kept

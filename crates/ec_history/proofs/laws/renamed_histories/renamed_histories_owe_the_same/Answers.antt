@@ -1,4 +1,4 @@
-use Rattle.ec_history.proofs.OfLaws.RenamedOwing.{owed-at, due-at}
+use Rattle.ec_history.proofs.OfLaws.ForRenamed.RenamedOwing.{owed-at, due-at}
 use Rattle.ec_history.proofs.laws.renamed_histories.renamed_histories_owe_the_same.Goals as goal
 
 pub returns-clause-owed : goal.returns-clause-owed

@@ -1,6 +1,6 @@
-use Rattle.ec_history.proofs.OfLaws.Covering.{covers-by, covers-back}
-use Rattle.ec_history.proofs.OfLaws.BasesAlike.{turned, lawful-as}
-use Rattle.ec_history.proofs.OfLaws.Agreeing.{renamed-agree}
+use Rattle.ec_history.proofs.OfLaws.ForRenamed.Covering.{covers-by, covers-back}
+use Rattle.ec_history.proofs.OfLaws.ForPlacing.BasesAlike.{turned, lawful-as}
+use Rattle.ec_history.proofs.OfLaws.ForRenamed.Agreeing.{renamed-agree}
 use Rattle.ec_history.proofs.laws.renamed_histories.renamed_losses_are_lawful.Goals as goal
 
 pub returns-clause-covers : goal.returns-clause-covers

@@ -1,5 +1,5 @@
-use Rattle.ec_history.proofs.OfLaws.BasesAlike.{turned, covered-as, stored-as}
-use Rattle.ec_history.proofs.OfLaws.Agreeing.{renamed-agree}
+use Rattle.ec_history.proofs.OfLaws.ForPlacing.BasesAlike.{turned, covered-as, stored-as}
+use Rattle.ec_history.proofs.OfLaws.ForRenamed.Agreeing.{renamed-agree}
 use Rattle.ec_history.proofs.laws.renamed_histories.renamed_transcripts_are_covered.Goals as goal
 
 pub returns-clause-covered : goal.returns-clause-covered

@@ -1,5 +1,5 @@
-use Rattle.ec_history.proofs.OfLaws.Images.{operands-by, operand-by, fits-by, effect-by, sound-by}
-use Rattle.ec_history.proofs.OfLaws.Needs.{overwrite-at, before-at, under-at, needs-at}
+use Rattle.ec_history.proofs.OfLaws.ForRenamed.Images.{operands-by, operand-by, fits-by, effect-by, sound-by}
+use Rattle.ec_history.proofs.OfLaws.ForRenamed.Needs.{overwrite-at, before-at, under-at, needs-at}
 use Rattle.ec_history.proofs.laws.renamed_updates.renamed_updates_do_alike.Goals as goal
 
 pub returns-clause-operands : goal.returns-clause-operands

@@ -1,4 +1,4 @@
-use Rattle.ec_history.proofs.OfLaws.Shapes.{shape-by, after-by, Fits-by, Fits-back, kept-by}
+use Rattle.ec_history.proofs.OfLaws.ForRenamed.Shapes.{shape-by, after-by, Fits-by, Fits-back, kept-by}
 use Rattle.ec_history.proofs.laws.renamed_volumes.renamed_volumes_have_one_shape.Goals as goal
 
 pub returns-clause-shape : goal.returns-clause-shape

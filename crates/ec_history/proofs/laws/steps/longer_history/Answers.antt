@@ -1,4 +1,4 @@
-use Rattle.ec_history.proofs.OfLaws.More.{kept-append, kept-step, issued-append, issued-step, owed-append, owed-step, owed-others, is_lost-append, due-step, count-next}
+use Rattle.ec_history.proofs.OfLaws.ForPlacing.More.{kept-append, kept-step, issued-append, issued-step, owed-append, owed-step, owed-others, is_lost-append, due-step, count-next}
 use Rattle.ec_history.proofs.laws.steps.longer_history.Goals as goal
 
 pub returns-clause-keeps : goal.returns-clause-keeps

@@ -1,4 +1,4 @@
-use Rattle.ec_history.proofs.OfLaws.More.{watch-append, watch-step, durable-append, durable-step, last_place-step, before_line-append}
+use Rattle.ec_history.proofs.OfLaws.ForPlacing.More.{watch-append, watch-step, durable-append, durable-step, last_place-step, before_line-append}
 use Rattle.ec_history.proofs.laws.steps.longer_transcript.Goals as goal
 
 pub returns-clause-shows : goal.returns-clause-shows

@@ -1,4 +1,4 @@
-use Rattle.ec_lawful.proofs.OfClerkSteps.Settled.{late-settled, settled}
+use Rattle.ec_lawful.proofs.OfClerkSteps.ForCalls.Settled.{late-settled, settled}
 use Rattle.ec_lawful.proofs.clerk_steps.calls.answers_cover_what_is_durable.Goals as goal
 
 pub returns-clause-settled : goal.returns-clause-settled

@@ -1,4 +1,4 @@
-use Rattle.ec_lawful.proofs.OfClerkSteps.CallsLeft.{left-calls, left-lines}
+use Rattle.ec_lawful.proofs.OfClerkSteps.ForCalls.CallsLeft.{left-calls, left-lines}
 use Rattle.ec_lawful.proofs.clerk_steps.calls.answers_keep_calls.Goals as goal
 
 pub returns : goal.returns

@@ -1,5 +1,5 @@
-use Rattle.ec_lawful.proofs.OfClerkSteps.Follows.{follows}
-use Rattle.ec_lawful.proofs.OfClerkSteps.Sessionless.{outside-shows-none}
+use Rattle.ec_lawful.proofs.OfClerkSteps.ForCalls.Follows.{follows}
+use Rattle.ec_lawful.proofs.OfClerkSteps.ForCalls.Sessionless.{outside-shows-none}
 use Rattle.ec_lawful.proofs.clerk_steps.calls.answers_may_follow.Goals as goal
 
 pub returns-clause-line : goal.returns-clause-line

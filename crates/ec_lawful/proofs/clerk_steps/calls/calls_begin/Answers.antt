@@ -1,6 +1,6 @@
-use Rattle.ec_lawful.proofs.OfClerkSteps.Begin.{begun-calls, begun-turn}
-use Rattle.ec_lawful.proofs.OfClerkSteps.Lined.{lined-all, lined-calls}
-use Rattle.ec_lawful.proofs.OfClerkSteps.Shown.{waits-stand}
+use Rattle.ec_lawful.proofs.OfClerkSteps.ForCalls.Begin.{begun-calls, begun-turn}
+use Rattle.ec_lawful.proofs.OfClerkSteps.ForCalls.Lined.{lined-all, lined-calls}
+use Rattle.ec_lawful.proofs.OfClerkSteps.ForCalls.Shown.{waits-stand}
 use Rattle.ec_lawful.proofs.clerk_steps.calls.calls_begin.Goals as goal
 
 pub returns-clause-begin : goal.returns-clause-begin

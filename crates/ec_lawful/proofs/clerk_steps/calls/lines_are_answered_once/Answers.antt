@@ -1,6 +1,6 @@
 use Rattle.std.proofs.Common.{sym, subst, []}
 use Rattle.ec_history.specs.Placing.{ArePlaceable}
-use Rattle.ec_lawful.proofs.OfClerkSteps.Once.{once}
+use Rattle.ec_lawful.proofs.OfClerkSteps.ForCalls.Once.{once}
 use Rattle.ec_lawful.proofs.clerk_steps.calls.lines_are_answered_once.Goals as goal
 
 pub returns : goal.returns

@@ -1,5 +1,5 @@
-use Rattle.ec_lawful.proofs.OfClerkSteps.Quiets.{leaves-resend, quiet-evict, quiet-hello, quiet-prepared, quiet-pushed, quiet-resend, quiet-taken}
-use Rattle.ec_lawful.proofs.OfClerkSteps.Still.{quiet-same, quiet-then}
+use Rattle.ec_lawful.proofs.OfClerkSteps.ForCalls.Quiets.{leaves-resend, quiet-evict, quiet-hello, quiet-prepared, quiet-pushed, quiet-resend, quiet-taken}
+use Rattle.ec_lawful.proofs.OfClerkSteps.ForCalls.Still.{quiet-same, quiet-then}
 use Rattle.ec_lawful.proofs.clerk_steps.calls.messages_are_quiet.Goals as goal
 
 pub returns-clause-quiet : goal.returns-clause-quiet

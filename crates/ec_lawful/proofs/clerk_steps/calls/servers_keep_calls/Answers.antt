@@ -1,5 +1,5 @@
-use Rattle.ec_lawful.proofs.OfClerkSteps.CallFrames.{calls-kept, rest-kept, served-calls, served-rest}
-use Rattle.ec_lawful.proofs.OfClerkSteps.Opening.{opening-calls, opening-rest}
+use Rattle.ec_lawful.proofs.OfClerkSteps.ForCalls.CallFrames.{calls-kept, rest-kept, served-calls, served-rest}
+use Rattle.ec_lawful.proofs.OfClerkSteps.ForCalls.Opening.{opening-calls, opening-rest}
 use Rattle.ec_lawful.proofs.clerk_steps.calls.servers_keep_calls.Goals as goal
 
 pub returns-clause-opening : goal.returns-clause-opening

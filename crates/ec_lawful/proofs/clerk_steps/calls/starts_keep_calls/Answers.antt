@@ -1,4 +1,4 @@
-use Rattle.ec_lawful.proofs.OfClerkSteps.Told.{crashed-calls, crashed-rest, told-calls, up-calls, up-rest}
+use Rattle.ec_lawful.proofs.OfClerkSteps.ForCalls.Told.{crashed-calls, crashed-rest, told-calls, up-calls, up-rest}
 use Rattle.ec_lawful.proofs.clerk_steps.calls.starts_keep_calls.Goals as goal
 
 pub returns-clause-told : goal.returns-clause-told

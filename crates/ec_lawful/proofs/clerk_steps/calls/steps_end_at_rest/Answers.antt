@@ -1,5 +1,5 @@
-use Rattle.ec_lawful.proofs.OfClerkSteps.RestsBehind.{rests-behind}
-use Rattle.ec_lawful.proofs.OfClerkSteps.Resting.{evicts-rest, settles-rest, tries-rest}
+use Rattle.ec_lawful.proofs.OfClerkSteps.ForCalls.RestsBehind.{rests-behind}
+use Rattle.ec_lawful.proofs.OfClerkSteps.ForCalls.Resting.{evicts-rest, settles-rest, tries-rest}
 use Rattle.ec_lawful.proofs.clerk_steps.calls.steps_end_at_rest.Goals as goal
 
 pub returns-clause-settle : goal.returns-clause-settle

@@ -1,4 +1,4 @@
-use Rattle.ec_lawful.proofs.OfClerkSteps.Quiet.{begins-step, quiet-calls, quiet-lines}
+use Rattle.ec_lawful.proofs.OfClerkSteps.ForCalls.Quiet.{begins-step, quiet-calls, quiet-lines}
 use Rattle.ec_lawful.proofs.clerk_steps.calls.steps_keep_calls.Goals as goal
 
 pub returns-clause-begin : goal.returns-clause-begin

@@ -1,5 +1,5 @@
-use Rattle.ec_lawful.proofs.OfClerkSteps.Still.{begins-still, still-waits, tries-answer}
-use Rattle.ec_lawful.proofs.OfClerkSteps.Turns.{still-turn, turns-allow}
+use Rattle.ec_lawful.proofs.OfClerkSteps.ForCalls.Still.{begins-still, still-waits, tries-answer}
+use Rattle.ec_lawful.proofs.OfClerkSteps.ForCalls.Turns.{still-turn, turns-allow}
 use Rattle.ec_lawful.proofs.clerk_steps.calls.tries_answer_what_does_not_wait.Goals as goal
 
 pub returns-clause-tries : goal.returns-clause-tries

@@ -1,5 +1,5 @@
-use Rattle.ec_lawful.proofs.OfClerkSteps.Calling.{all-again, byes, flushes}
-use Rattle.ec_lawful.proofs.OfClerkSteps.Spent.{spent-stays}
+use Rattle.ec_lawful.proofs.OfClerkSteps.ForDoings.Calling.{all-again, byes, flushes}
+use Rattle.ec_lawful.proofs.OfClerkSteps.ForDoings.Spent.{spent-stays}
 use Rattle.ec_lawful.proofs.clerk_steps.doings.clerks_may_call.Goals as goal
 
 pub returns-clause-calls : goal.returns-clause-calls

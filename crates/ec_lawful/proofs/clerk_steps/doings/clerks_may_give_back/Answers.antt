@@ -1,6 +1,6 @@
-use Rattle.ec_lawful.proofs.OfClerkSteps.Evicting.{evicts}
-use Rattle.ec_lawful.proofs.OfClerkSteps.Pushes.{asks-pushes, keeps-push}
-use Rattle.ec_lawful.proofs.OfClerkSteps.Recalls.{answers}
+use Rattle.ec_lawful.proofs.OfClerkSteps.ForDoings.Evicting.{evicts}
+use Rattle.ec_lawful.proofs.OfClerkSteps.ForDoings.Pushes.{asks-pushes, keeps-push}
+use Rattle.ec_lawful.proofs.OfClerkSteps.ForDoings.Recalls.{answers}
 use Rattle.ec_lawful.proofs.clerk_steps.doings.clerks_may_give_back.Goals as goal
 
 pub returns-clause-recalls : goal.returns-clause-recalls

@@ -1,6 +1,6 @@
-use Rattle.ec_lawful.proofs.OfClerkSteps.Calling.{begins}
-use Rattle.ec_lawful.proofs.OfClerkSteps.Hand.{asks, claims, rooms, wants, wants-again}
-use Rattle.ec_lawful.proofs.OfClerkSteps.Outstanding.{all-again}
+use Rattle.ec_lawful.proofs.OfClerkSteps.ForDoings.Calling.{begins}
+use Rattle.ec_lawful.proofs.OfClerkSteps.ForDoings.Hand.{asks, claims, rooms, wants, wants-again}
+use Rattle.ec_lawful.proofs.OfClerkSteps.ForDoings.Outstanding.{all-again}
 use Rattle.ec_lawful.proofs.clerk_steps.doings.clerks_may_send.Goals as goal
 
 pub returns-clause-begins : goal.returns-clause-begins

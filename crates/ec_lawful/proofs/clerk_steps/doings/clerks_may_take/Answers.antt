@@ -1,7 +1,7 @@
 use Rattle.ec_wire.specs.declared.msg.Msg.TheVariants.{Grant, Ids, Kept, Recall, Restarted}
-use Rattle.ec_lawful.proofs.OfClerkSteps.Restarting.{takes-restarted}
-use Rattle.ec_lawful.proofs.OfClerkSteps.Taking.{takes-grant, takes-kept, takes-recall}
-use Rattle.ec_lawful.proofs.OfClerkSteps.TakingIds.{takes-ids}
+use Rattle.ec_lawful.proofs.OfClerkSteps.ForDoings.Restarting.{takes-restarted}
+use Rattle.ec_lawful.proofs.OfClerkSteps.ForDoings.Taking.{takes-grant, takes-kept, takes-recall}
+use Rattle.ec_lawful.proofs.OfClerkSteps.ForDoings.TakingIds.{takes-ids}
 use Rattle.ec_lawful.proofs.clerk_steps.doings.clerks_may_take.Goals as goal
 
 pub returns-clause-grants : goal.returns-clause-grants

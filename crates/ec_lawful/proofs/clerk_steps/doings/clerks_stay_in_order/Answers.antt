@@ -1,4 +1,4 @@
-use Rattle.ec_lawful.proofs.OfClerkSteps.Calling.{opening-order, order-agrees, order-stays}
+use Rattle.ec_lawful.proofs.OfClerkSteps.ForDoings.Calling.{opening-order, order-agrees, order-stays}
 use Rattle.ec_lawful.proofs.clerk_steps.doings.clerks_stay_in_order.Goals as goal
 
 pub returns-clause-own : goal.returns-clause-own

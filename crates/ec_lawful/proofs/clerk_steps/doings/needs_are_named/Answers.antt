@@ -1,6 +1,6 @@
-use Rattle.ec_lawful.proofs.OfClerkSteps.Moving as moving
-use Rattle.ec_lawful.proofs.OfClerkSteps.Naming.{needs-named}
-use Rattle.ec_lawful.proofs.OfClerkSteps.Order.{ids-are-out}
+use Rattle.ec_lawful.proofs.OfClerkSteps.ForDoings.Moving as moving
+use Rattle.ec_lawful.proofs.OfClerkSteps.ForDoings.Naming.{needs-named}
+use Rattle.ec_lawful.proofs.OfClerkSteps.ForDoings.Order.{ids-are-out}
 use Rattle.ec_lawful.proofs.clerk_steps.doings.needs_are_named.Goals as goal
 use Rattle.ec_coherence.specs.Steps.{doing_in}
 

@@ -1,6 +1,6 @@
-use Rattle.ec_lawful.proofs.OfClerkSteps.Stilling.{are-still, restarts-still}
-use Rattle.ec_lawful.proofs.OfClerkSteps.FreesStored.{clerks-keep-frees, ended-keeps-frees, opened-keeps-frees, stills-keep}
-use Rattle.ec_lawful.proofs.OfClerkSteps.StoredIds.{ids-keep-frees}
+use Rattle.ec_lawful.proofs.OfClerkSteps.ForNames.Stilling.{are-still, restarts-still}
+use Rattle.ec_lawful.proofs.OfClerkSteps.ForDoings.FreesStored.{clerks-keep-frees, ended-keeps-frees, opened-keeps-frees, stills-keep}
+use Rattle.ec_lawful.proofs.OfClerkSteps.ForDoings.StoredIds.{ids-keep-frees}
 use Rattle.ec_lawful.proofs.clerk_steps.frees.clerks_keep_ids_apart.Goals as goal
 use Rattle.std.proofs.Common.{inl}
 

@@ -1,6 +1,6 @@
-use Rattle.ec_lawful.proofs.OfClerkSteps.Moves.{servers-keep-frees}
-use Rattle.ec_lawful.proofs.OfClerkSteps.FreesStored.{frees-begin, frees-read}
-use Rattle.ec_lawful.proofs.OfClerkSteps.Storing.{moves-follow, states-keep-frees}
+use Rattle.ec_lawful.proofs.OfClerkSteps.ForNames.Moves.{servers-keep-frees}
+use Rattle.ec_lawful.proofs.OfClerkSteps.ForDoings.FreesStored.{frees-begin, frees-read}
+use Rattle.ec_lawful.proofs.OfClerkSteps.ForNames.Storing.{moves-follow, states-keep-frees}
 use Rattle.ec_lawful.proofs.clerk_steps.frees.servers_keep_ids_apart.Goals as goal
 
 pub returns-clause-states : goal.returns-clause-states

@@ -1,7 +1,7 @@
-use Rattle.ec_lawful.proofs.OfClerkSteps.Hellos.{hello-cuts, hello-stands}
-use Rattle.ec_lawful.proofs.OfClerkSteps.Joined.{opened-cuts, opened-go}
-use Rattle.ec_lawful.proofs.OfClerkSteps.OutsideChanges.{outside-all, outside-cuts}
-use Rattle.ec_lawful.proofs.OfClerkSteps.Leaving.{ended-stands}
+use Rattle.ec_lawful.proofs.OfClerkSteps.ForJoins.Hellos.{hello-cuts, hello-stands}
+use Rattle.ec_lawful.proofs.OfClerkSteps.ForJoins.Joined.{opened-cuts, opened-go}
+use Rattle.ec_lawful.proofs.OfClerkSteps.ForJoins.OutsideChanges.{outside-all, outside-cuts}
+use Rattle.ec_lawful.proofs.OfClerkSteps.ForJoins.Leaving.{ended-stands}
 use Rattle.ec_lawful.proofs.clerk_steps.joins.clerks_join_and_leave.Goals as goal
 
 pub returns-clause-hello : goal.returns-clause-hello

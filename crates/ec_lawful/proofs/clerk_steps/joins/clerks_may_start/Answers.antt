@@ -1,4 +1,4 @@
-use Rattle.ec_lawful.proofs.OfClerkSteps.Begins.{fresh-stands, start-stands}
+use Rattle.ec_lawful.proofs.OfClerkSteps.ForJoins.Begins.{fresh-stands, start-stands}
 use Rattle.ec_lawful.proofs.clerk_steps.joins.clerks_may_start.Goals as goal
 
 pub returns-clause-fresh : goal.returns-clause-fresh

@@ -1,4 +1,4 @@
-use Rattle.ec_lawful.proofs.OfClerkSteps.Wholes.{begins, takes-others, takes-outside}
+use Rattle.ec_lawful.proofs.OfClerkSteps.ForJoins.Wholes.{begins, takes-others, takes-outside}
 use Rattle.ec_lawful.proofs.clerk_steps.joins.clerks_take_what_others_sent.Goals as goal
 
 pub returns-clause-begin : goal.returns-clause-begin

@@ -1,5 +1,5 @@
-use Rattle.ec_lawful.proofs.OfClerkSteps.Calm.{are-calm}
-use Rattle.ec_lawful.proofs.OfClerkSteps.Going.{calm-keeps, kept-keeps, late-keeps, plain-keeps, steps-keep-counts}
+use Rattle.ec_lawful.proofs.OfClerkSteps.ForJoins.Calm.{are-calm}
+use Rattle.ec_lawful.proofs.OfClerkSteps.ForJoins.Going.{calm-keeps, kept-keeps, late-keeps, plain-keeps, steps-keep-counts}
 use Rattle.ec_lawful.proofs.clerk_steps.joins.cut_off_starts_know_what_they_do.Goals as goal
 
 pub returns-clause-calm : goal.returns-clause-calm

@@ -1,5 +1,5 @@
-use Rattle.ec_lawful.proofs.OfClerkSteps.CutFrames.{crash-counts, crash-cuts, lines-keep-counts, opening-keeps, same-cuts, silent-keeps, stop-keeps, waits-keeps}
-use Rattle.ec_lawful.proofs.OfClerkSteps.Records.{records-counts, records-cuts}
+use Rattle.ec_lawful.proofs.OfClerkSteps.ForJoins.CutFrames.{crash-counts, crash-cuts, lines-keep-counts, opening-keeps, same-cuts, silent-keeps, stop-keeps, waits-keeps}
+use Rattle.ec_lawful.proofs.OfClerkSteps.ForJoins.Records.{records-counts, records-cuts}
 use Rattle.ec_lawful.proofs.clerk_steps.joins.cut_off_starts_stay_known.Goals as goal
 
 pub returns-clause-opening : goal.returns-clause-opening

@@ -1,4 +1,4 @@
-use Rattle.ec_lawful.proofs.OfClerkSteps.NamesChanging.{answers-keep, clerks-keep, ended-keeps, held-is-named, opened-keeps, ops-named, outs-keep}
+use Rattle.ec_lawful.proofs.OfClerkSteps.ForNames.NamesChanging.{answers-keep, clerks-keep, ended-keeps, held-is-named, opened-keeps, ops-named, outs-keep}
 use Rattle.ec_lawful.proofs.clerk_steps.names.clerks_keep_names.Goals as goal
 
 pub returns-clause-held : goal.returns-clause-held

@@ -1,4 +1,4 @@
-use Rattle.ec_lawful.proofs.OfClerkSteps.NameFrames.{names-begin, names-follow, names-read}
+use Rattle.ec_lawful.proofs.OfClerkSteps.ForNames.NameFrames.{names-begin, names-follow, names-read}
 use Rattle.ec_lawful.proofs.clerk_steps.names.names_stay.Goals as goal
 
 pub returns-clause-follow : goal.returns-clause-follow

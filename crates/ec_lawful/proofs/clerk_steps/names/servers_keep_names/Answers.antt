@@ -1,4 +1,4 @@
-use Rattle.ec_lawful.proofs.OfClerkSteps.Serving.{servers-keep, states-keep}
+use Rattle.ec_lawful.proofs.OfClerkSteps.ForNames.Serving.{servers-keep, states-keep}
 use Rattle.ec_lawful.proofs.clerk_steps.names.servers_keep_names.Goals as goal
 
 pub returns-clause-states : goal.returns-clause-states

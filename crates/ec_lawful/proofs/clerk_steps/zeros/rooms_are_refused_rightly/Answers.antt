@@ -1,10 +1,10 @@
 use Rattle.std.proofs.Common.{sym, ap, subst, ◌++◌}
 use Rattle.ec_protocol.specs.Clerk.{begin, bye, flush, push, resend, start as start_clerk, take as take_message}
 use Rattle.ec_protocol.specs.Server.{end, start, take}
-use Rattle.ec_coherence.proofs.Lists.{each-more}
+use Rattle.ec_coherence.proofs.ForServer.Lists.{each-more}
 use Rattle.ec_lawful.specs.OfClerkSteps.Fulls.{AreFullAt, IsFullAt}
-use Rattle.ec_lawful.proofs.OfClerkSteps.Sent.{begin-own, bye-own, flush-own, own-full, push-own, resend-own, start-own, take-own}
-use Rattle.ec_lawful.proofs.OfClerkSteps.Served.{end-right, start-right, take-right}
+use Rattle.ec_lawful.proofs.OfClerkSteps.ForNames.Sent.{begin-own, bye-own, flush-own, own-full, push-own, resend-own, start-own, take-own}
+use Rattle.ec_lawful.proofs.OfClerkSteps.ForNames.Served.{end-right, start-right, take-right}
 use Rattle.ec_lawful.proofs.clerk_steps.zeros.rooms_are_refused_rightly.Goals as goal
 
 pub returns-clause-servers : goal.returns-clause-servers

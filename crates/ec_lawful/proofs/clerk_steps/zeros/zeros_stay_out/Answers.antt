@@ -1,5 +1,5 @@
-use Rattle.ec_lawful.proofs.OfClerkSteps.ZerosBehind.{changed-keeps, opening-keeps, records-keep, same-keeps, steps-keep}
-use Rattle.ec_lawful.proofs.OfClerkSteps.Parts.{have-no-zero, ids-have-none}
+use Rattle.ec_lawful.proofs.OfClerkSteps.ForNames.ZerosBehind.{changed-keeps, opening-keeps, records-keep, same-keeps, steps-keep}
+use Rattle.ec_lawful.proofs.OfClerkSteps.ForNames.Parts.{have-no-zero, ids-have-none}
 use Rattle.ec_lawful.proofs.clerk_steps.zeros.zeros_stay_out.Goals as goal
 
 pub returns-clause-opening : goal.returns-clause-opening

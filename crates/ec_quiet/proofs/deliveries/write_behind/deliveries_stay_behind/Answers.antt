@@ -1,4 +1,4 @@
-use Rattle.ec_quiet.proofs.OfDeliveries.StayingBehind.{stays-behind}
+use Rattle.ec_quiet.proofs.OfDeliveries.ForWriteBehind.StayingBehind.{stays-behind}
 use Rattle.ec_quiet.proofs.deliveries.write_behind.deliveries_stay_behind.Goals as goal
 
 pub returns : goal.returns

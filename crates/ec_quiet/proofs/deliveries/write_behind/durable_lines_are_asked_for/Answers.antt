@@ -1,4 +1,4 @@
-use Rattle.ec_quiet.proofs.OfDeliveries.Shown.{lines-behind}
+use Rattle.ec_quiet.proofs.OfDeliveries.ForWriteBehind.Shown.{lines-behind}
 use Rattle.ec_quiet.proofs.deliveries.write_behind.durable_lines_are_asked_for.Goals as goal
 
 pub returns : goal.returns

@@ -1,4 +1,4 @@
-use Rattle.ec_quiet.proofs.OfDeliveries.Begun.{calls-begin, idle-behind, pushes-begin, starts-begin}
+use Rattle.ec_quiet.proofs.OfDeliveries.ForWriteBehind.Begun.{calls-begin, idle-behind, pushes-begin, starts-begin}
 use Rattle.ec_quiet.proofs.deliveries.write_behind.lines_begin_behind.Goals as goal
 
 pub returns-clause-idle : goal.returns-clause-idle

@@ -1,4 +1,4 @@
-use Rattle.ec_quiet.proofs.OfDeliveries.Worked.{touches-work, works-behind}
+use Rattle.ec_quiet.proofs.OfDeliveries.ForWriteBehind.Worked.{touches-work, works-behind}
 use Rattle.ec_quiet.proofs.deliveries.write_behind.works_of_lines_write_behind.Goals as goal
 
 pub returns-clause-behind : goal.returns-clause-behind

@@ -1,0 +1,16 @@
+pub mod Said
+pub mod Told
+pub mod Seats
+pub mod Pays
+pub mod Reading
+pub mod Unended
+pub mod LaterStarts
+pub mod ServingAsks
+pub mod EventsAsk
+pub mod Shown
+pub mod Opened
+pub mod Agreeing
+pub mod Grows
+pub mod FreshAnswered
+pub mod Makes
+pub mod FreshAnswering

@@ -1,0 +1,13 @@
+pub mod Called
+pub mod First
+pub mod Alone
+pub mod Nothing
+pub mod FirstAnswered
+pub mod Ids
+pub mod Carrying
+pub mod Readying
+pub mod Beginning
+pub mod Ending
+pub mod Resending
+pub mod Plains
+pub mod Waiting

@@ -1,0 +1,10 @@
+pub mod NameFrames
+pub mod Serving
+pub mod NamesChanging
+pub mod ZerosBehind
+pub mod Parts
+pub mod Sent
+pub mod Served
+pub mod Storing
+pub mod Moves
+pub mod Stilling

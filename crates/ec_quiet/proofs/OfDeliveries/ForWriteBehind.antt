@@ -1,0 +1,17 @@
+pub mod Picked
+pub mod Tried
+pub mod Stepped
+pub mod Seen
+pub mod Moved
+pub mod Opened
+pub mod Recalled
+pub mod Kept
+pub mod Granted
+pub mod IdsCome
+pub mod Refused
+pub mod Saved
+pub mod StayingBehind
+pub mod Begun
+pub mod Shown
+pub mod Parts
+pub mod Worked
