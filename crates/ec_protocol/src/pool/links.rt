@@ -73,16 +73,30 @@ pub(crate) fn first_due_but(
     ensures { result ≡ key_of (first (λ p. passes cut.now server_is_running p.1 && not (is_kept_from held.now (going (at p.0 kept.now.entries)))) pending.now) }
 {
     for (number, link) in pending {
-        if passes(*link, cut, server_is_running) && !is_kept_from(kept.get(number), held) {
+        if goes(*number, *link, kept, cut, server_is_running, held) {
             return Some(*number);
         }
     }
     None
 }
 
+// Whether a pending message can be delivered, and isn't kept from these clerks.
+fn goes(
+    number: u64,
+    link: Link,
+    kept: &BTreeMap<u64, Sent>,
+    cut: &[ClerkId],
+    server_is_running: bool,
+    held: &[ClerkId],
+) -> bool
+    ensures { result ≡ passes cut.now server_is_running link && not (is_kept_from held.now (going (at number kept.now.entries))) }
+{
+    passes(link, cut, server_is_running) && !is_kept_from(kept.get(&number), held)
+}
+
 // Whether the message is no Ended, and goes to one of these clerks.
 fn is_kept_from(sent: Option<&Sent>, held: &[ClerkId]) -> bool
-    ensures { result ≡ is_kept_from held.now (going (option_copied sent)) }
+    ensures { result ≡ is_kept_from held.now (going (option_copied sent.entry)) }
 {
     match sent {
         Some(sent) => {
