@@ -66,10 +66,12 @@ pub trait Disk {
         ensures due { IsDue (counts self.old).armed → result ≡ answer.Stopped }
         ensures call { (counts self.new).calls ≡ one_more (counts self.old).calls };
 
-    /// Writes `piece` from `at` on. A gap past the end reads as zeros. Until a sync a crash may leave any bytes in the range.
+    /// Writes `piece` from `at` on, also where it stops. A gap past the end reads as zeros. Until a sync a crash may leave any bytes in
+    /// the range.
     fn write_at(&mut self, at: u64, piece: &[u8]) -> DiskAnswer
         ensures does { does self.old (call.Write at piece.now result) self.new }
         ensures written { tells → result ≡ answer.Done → (view self.new).gives ≡ written at piece.now (view self.old).gives }
+        ensures stopped { tells → result ≡ answer.Stopped → (view self.new).gives ≡ written at piece.now (view self.old).gives }
         ensures wrote { tells → Wrote (InRange at (length piece.now)) (view self.old) (view self.new) }
         ensures kept { tells → (view self.new).synced ≡ (view self.old).synced }
         ensures counts { Counted (counts self.old) (counts self.new) (result ≡ answer.Failed) (result ≡ answer.Stopped) }

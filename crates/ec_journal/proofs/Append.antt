@@ -91,7 +91,7 @@ module _ (at size end : ℕ) (bodies : List (List ℕ)) (body : List ℕ) (ends 
   Either image = Has bodies image ⊎ Has (bodies ++ body ∷ []) image
 
   module _ (old mid : View) (each : (c : List ℕ) → old.may_leave c → Has bodies c) (first : Ran (InRange (at + end + 1) (length (staged body))) old mid) where
-    kept_by_first : (c : List ℕ) → After old (InRange (at + end + 1) (length (staged body))) c → Has bodies c
+    pub kept_by_first : (c : List ℕ) → After old (InRange (at + end + 1) (length (staged body))) c → Has bodies c
     kept_by_first c after = bodies-loose (InRange (at + end + 1) (length (staged body))) after.0 c at size bodies (each after.0 after.1) after.2 (λ i le up_to in_range. omega (arith, up_to, in_range.0, ends))
 
     pub first_leaves : LeavesOnly old mid Either
@@ -129,13 +129,16 @@ module _ (at size end : ℕ) (bodies : List (List ℕ)) (body : List ℕ) (ends 
       pub both_leave : LeavesOnly old new Either
       both_leave = leaves_then Either old mid new first_leaves (leaves_only _ Either mid new second either)
 
-      pub appended : new.gives ≡ written (at + end) (open_gate ∷ []) mid.gives → IsSynced new → new.may_leave new.gives → (c : List ℕ) → new.may_leave c → Has (bodies ++ body ∷ []) c
-      appended is_written now_synced now_given c left =
-          subst (Has (bodies ++ body ∷ [])) (sym (now_synced c left))
-          (opened at size bodies body short (omega (arith, ends, fits, before)) mid.gives new.gives has stands (loose new.gives (second.crash new.gives now_given)) gate_open)
+      -- what a read gives, where the gate's write was carried out
+      pub given_both : new.gives ≡ written (at + end) (open_gate ∷ []) mid.gives → new.may_leave new.gives → Has (bodies ++ body ∷ []) new.gives
+      given_both is_written now_given =
+          opened at size bodies body short (omega (arith, ends, fits, before)) mid.gives new.gives has stands (loose new.gives (second.crash new.gives now_given)) gate_open
         where
           gate_open : byte new.gives (at + length (records bodies)) ≡ open_gate
           gate_open = subst (λ k. byte new.gives (at + k) ≡ open_gate) ends (subst (λ image. byte image (at + end) ≡ open_gate) (sym is_written) (byte-written (at + end) open_gate mid.gives))
+
+      pub appended : new.gives ≡ written (at + end) (open_gate ∷ []) mid.gives → IsSynced new → new.may_leave new.gives → (c : List ℕ) → new.may_leave c → Has (bodies ++ body ∷ []) c
+      appended is_written now_synced now_given c left = subst (Has (bodies ++ body ∷ [])) (sym (now_synced c left)) (given_both is_written now_given)
 
 -- both writes are behind the records
 pub both_ran : (at size end : ℕ) (body : List ℕ) → length body + 6 ≤ size - end → end < size → (W : ℕ → Type 0) → ((i : ℕ) → at + end ≤ i → i < at + size → W i) → (old mid new : View)

@@ -1,9 +1,10 @@
 -- Calls of a disk that were done, up to one that was answered otherwise.
-use Rattle.std.specs.Prelude.{◌≡◌, ◌⊎◌, ◌<◌, ◌≤◌, ◌+◌, ℕ, List, [], ◌∷◌, ◌++◌, length, Option}
+use Rattle.std.specs.Prelude.{◌≡◌, ◌⊎◌, ◌<◌, ◌≤◌, ◌+◌, ◌-◌, ℕ, List, [], ◌∷◌, ◌++◌, length, Option, Some}
 use Rattle.std.proofs.Common.{refl, sym, subst, arith, length-append}
 use Rattle.ec_disk.specs.Calls.{Call, Read, Write, Sync, Len}
 use Rattle.ec_disk.specs.Counting.{turned_once, turned_both, turned_for}
-use Rattle.ec_disk.specs.Effects.{Turned, CountsDown}
+use Rattle.ec_disk.specs.Disk.{NoneDue}
+use Rattle.ec_disk.specs.Effects.{Turned, CountsDown, IsDueIn}
 use Rattle.ec_disk.specs.declared.disk.DiskAnswer.{DiskAnswer}
 use Rattle.ec_disk.specs.declared.disk.DiskAnswer.TheVariants.{Done, Failed, Stopped, NoMemory}
 use Rattle.ec_journal.specs.declared.fault.JournalFault.{JournalFault}
@@ -110,3 +111,11 @@ turns_for n a b G H S T is goes stops = record { turns = is.turns; few = is.few;
 -- one turn
 pub one_turn : (a b : Option ℕ) (G S : Type 0) → CountsDown a b G S → TurnedUpTo 1 a b G S
 one_turn a b G S down = record { turns = 1; few = omega arith; all = λ g. refl; turned = turned_once a b G S down }
+
+-- the turn that stopped is one of these
+pub stops_within : (most turn : ℕ) (a b : Option ℕ) (G S : Type 0) → TurnedUpTo most a b G S → S → a ≡ Some turn → turn ≤ most
+stops_within most turn a b G S is stops armed = omega (arith, is.few, subst (λ (o : Option ℕ). IsDueIn is.turns o) armed (is.turned.stops stops))
+
+-- where all of these were done, it's a later one
+pub stops_behind : (most turn : ℕ) (a b : Option ℕ) (G S : Type 0) → TurnedUpTo most a b G S → G → a ≡ Some turn → most ≤ turn - 1
+stops_behind most turn a b G S is goes armed = omega (arith, is.all goes, subst (λ (o : Option ℕ). NoneDue is.turns o) armed (is.turned.goes goes))

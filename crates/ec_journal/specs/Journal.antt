@@ -46,6 +46,12 @@ LeavesEither old new journal body = (bodies : List (List ℕ)) → IsOn old jour
 abbrev pub LeavesOld : View → View → Journal → Type 0
 LeavesOld old new journal = (bodies : List (List ℕ)) → IsOn old journal bodies → HasBodies new.synced (place_of journal) (size_of journal) bodies
 
+-- How an append that stopped in the turn with this number, of four, left a disk that stood for some bodies. Up to the second one the gate is closed: each image that
+-- a crash may leave has these bodies. From the third one on it's open in what a read gives: that has these and one more.
+pub record StopsIn (turn : ℕ) (old new : View) (journal : Journal) (body : List ℕ) : Type 0 where
+  pub early : turn ≤ 2 → (bodies : List (List ℕ)) → IsOn old journal bodies → (c : List ℕ) → new.may_leave c → HasBodies c (place_of journal) (size_of journal) bodies
+  pub late : 3 ≤ turn → (bodies : List (List ℕ)) → IsOn old journal bodies → HasBodies new.gives (place_of journal) (size_of journal) (bodies ++ body ∷ [])
+
 -- an open gate at this place stands over a record that runs past the journal
 abbrev pub IsBadJournal : List ℕ → ℕ → ℕ → ℕ → Type 0
 IsBadJournal image at size place = (bodies : List (List ℕ)) × (place ≡ at + length (records bodies)) × RunsPast image at size bodies

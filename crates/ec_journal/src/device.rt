@@ -40,6 +40,8 @@ pub fn write_synced<D: Disk>(disk: &mut D, at: u64, piece: &[u8]) -> Result<(), 
     ensures turned { TurnedUpTo 2 (D.counts disk.old).armed (D.counts disk.new).armed (IsOk result) (IsErrOf result fault.DiskStopped) }
     ensures saved { OnOk result (D.tells → (D.view disk.new).synced ≡ (D.view disk.new).gives) }
     ensures kept { OnErr result (D.tells → (D.view disk.new).synced ≡ (D.view disk.old).synced) }
+    // A write that stops is carried out.
+    ensures stopped { IsErrOf result fault.DiskStopped → D.tells → (D.view disk.new).gives ≡ written at piece.now (D.view disk.old).gives }
     ensures ends { IfErr result (λ f. EndsBy D.does (answer_of f) 2 disk.old disk.new) }
     ensures counts { Counted (D.counts disk.old) (D.counts disk.new) (IsErrOf result fault.DiskFailed) (IsErrOf result fault.DiskStopped) }
     ensures no_room { (need free : ℕ) → IsErrOf result (fault.NoRoom need free) → ⊥ }

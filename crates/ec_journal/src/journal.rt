@@ -30,14 +30,14 @@ pub struct Journal {
 }
 
 impl Journal {
-    ghost use Rattle.std.specs.Prelude.{◌≡◌, ◌+◌, ◌^◌, ◌<◌, ◌≤◌, ℕ, length, IfOk, OnOk, OnErr, IsOk, IsErrOf, MatchBool, MatchResult};
+    ghost use Rattle.std.specs.Prelude.{◌≡◌, ◌+◌, ◌^◌, ◌<◌, ◌≤◌, ℕ, Some, length, IfOk, OnOk, OnErr, IsOk, IsErrOf, MatchBool, MatchResult};
     ghost use Rattle.ec_disk.specs.Effects.{IsSynced, Counted, Called, Rests};
     ghost use Rattle.ec_disk.specs.Runs.{Ran};
     ghost use Rattle.ec_disk.specs.declared.disk.DiskAnswer.TheVariants as said;
     ghost use Rattle.ec_journal.specs.Ends.{DidAll, EndsBy, LacksMemory, TurnedUpTo};
     ghost use Rattle.ec_journal.specs.Records.{around_bytes, records, HasBodies};
     ghost use Rattle.ec_journal.specs.RecordBytes.{head_bytes, max_record_bytes};
-    ghost use Rattle.ec_journal.specs.Journal.{place_of, size_of, end_of, free_of, need_of, FromGate, Adds, LeavesEither, LeavesOld, IsBadJournal};
+    ghost use Rattle.ec_journal.specs.Journal.{place_of, size_of, end_of, free_of, need_of, FromGate, Adds, LeavesEither, LeavesOld, StopsIn, IsBadJournal};
     ghost use Rattle.ec_journal.specs.declared.fault.JournalFault.TheVariants as fault;
 
     /// The journal of `size` bytes from `at` on, whose closed gate stands at `end` in it: 0 where it has no record.
@@ -128,6 +128,7 @@ impl Journal {
         ensures turned { TurnedUpTo 4 (D.counts disk.old).armed (D.counts disk.new).armed (IsOk result) (IsErrOf result fault.DiskStopped) }
         // What was synced has the bodies from before.
         ensures old { OnErr result (D.tells → LeavesOld (D.view disk.old) (D.view disk.new) self.old) }
+        ensures halves { IsErrOf result fault.DiskStopped → D.tells → (turn : ℕ) → (D.counts disk.old).armed ≡ Some turn → StopsIn turn (D.view disk.old) (D.view disk.new) self.old body.now }
         ensures ran { D.tells → Ran (FromGate self.old) (D.view disk.old) (D.view disk.new) }
         ensures full { free_of self.old < need_of body.now → IsErrOf result (fault.NoRoom (need_of body.now) (free_of self.old)) }
         ensures no_room { (need free : ℕ) → IsErrOf result (fault.NoRoom need free) → (need ≡ need_of body.now) × (free ≡ free_of self.old) × (free < need) × (disk.new ≡ disk.old) }
@@ -161,6 +162,7 @@ impl Journal {
         ensures turned { TurnedUpTo 4 (D.counts disk.old).armed (D.counts disk.new).armed (IsOk result) (IsErrOf result fault.DiskStopped) }
         // What was synced has the bodies from before.
         ensures old { OnErr result (D.tells → LeavesOld (D.view disk.old) (D.view disk.new) self.old) }
+        ensures halves { IsErrOf result fault.DiskStopped → D.tells → (turn : ℕ) → (D.counts disk.old).armed ≡ Some turn → StopsIn turn (D.view disk.old) (D.view disk.new) self.old entry.now }
         ensures ran { D.tells → Ran (FromGate self.old) (D.view disk.old) (D.view disk.new) }
         ensures full { free_of self.old < need_of entry.now → IsErrOf result (fault.NoRoom (need_of entry.now) (free_of self.old)) }
         ensures no_room { (need free : ℕ) → IsErrOf result (fault.NoRoom need free) → (need ≡ need_of entry.now) × (free ≡ free_of self.old) × (free < need) × (disk.new ≡ disk.old) }

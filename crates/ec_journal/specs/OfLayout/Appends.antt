@@ -6,7 +6,7 @@ use Rattle.ec_disk.specs.Effects.{After, LeavesOnly}
 use Rattle.ec_disk.specs.Images.{part-loose}
 use Rattle.ec_disk.specs.Runs.{Ran}
 use Rattle.ec_journal.specs.Records.{HasBodies, records}
-use Rattle.ec_journal.specs.Journal.{place_of, size_of, end_of, IsOn, HasEither, Adds, LeavesEither, LeavesOld, FromGate}
+use Rattle.ec_journal.specs.Journal.{place_of, size_of, end_of, IsOn, HasEither, Adds, LeavesEither, LeavesOld, StopsIn, FromGate}
 use Rattle.ec_journal.specs.declared.journal.Journal.{Journal}
 use Rattle.ec_journal.specs.OfLayout.Places.{journal_at, table_at, side_of, journal_bytes}
 use Rattle.ec_journal.specs.OfLayout.Layout.{Layout, Lies, IsLaid}
@@ -21,6 +21,12 @@ pub record IsJournalOf (l : Layout) (journal : Journal) : Type 0 where
   pub place : place_of journal ≡ journal_at l.side
   pub size : size_of journal ≡ journal_bytes
   pub ends : end_of journal ≡ length (records l.bodies)
+
+-- How an append that stopped in the turn with this number, of four, left a disk with this layout. Up to the second one each image that a crash may leave has it;
+-- from the third one on a read gives it with the record.
+pub record StopsWith (turn : ℕ) (now : View) (l : Layout) (body : List ℕ) : Type 0 where
+  pub early : turn ≤ 2 → IsLaid now l
+  pub late : 3 ≤ turn → Lies now.gives (with_body body l)
 
 -- what a crash may leave of a layout when a record is added
 abbrev pub LeavesBody : Layout → List ℕ → List ℕ → Type 0
@@ -75,6 +81,13 @@ module _ (old new : View) (l : Layout) (journal later : Journal) (body : List �
   -- what was synced before it was there
   pub append_keeps : LeavesOld old new journal → new.may_leave new.synced → Lies new.synced l
   append_keeps keeps given = stays l.bodies new.synced (ran.crash new.synced given) (has l.bodies new.synced (keeps l.bodies on))
+
+  -- stopped in a turn
+  pub append_stops : (turn : ℕ) → StopsIn turn old new journal body → new.may_leave new.gives → StopsWith turn new l body
+  append_stops turn stops given = record {
+    early = λ first image left. stays l.bodies image (ran.crash image left) (has l.bodies image (stops.early first l.bodies on image left));
+    late = λ third. stays (l.bodies ++ body ∷ []) new.gives (ran.crash new.gives given) (has (l.bodies ++ body ∷ []) new.gives (stops.late third l.bodies on));
+  }
 
   -- at `Ok`
   pub append_done : Adds old new journal later body → place_of later ≡ place_of journal → size_of later ≡ size_of journal → IsLaid new (with_body body l)

@@ -14,7 +14,7 @@ pub struct Selected {
 }
 
 impl Selected {
-    ghost use Rattle.std.specs.Prelude.{◌≡◌, ◌⊎◌, ◌<◌, ◌≤◌, ◌+◌, ℕ, length, OnOk, OnErr, IsOk, IsErrOf, MatchBool};
+    ghost use Rattle.std.specs.Prelude.{◌≡◌, ◌⊎◌, ◌<◌, ◌≤◌, ◌+◌, ℕ, Some, length, OnOk, OnErr, IsOk, IsErrOf, MatchBool};
     ghost use Rattle.ec_disk.specs.declared.disk.DiskAnswer.TheVariants as said;
     ghost use Rattle.ec_disk.specs.Effects.{IsSynced, LeavesOnly, Counted, Called};
     ghost use Rattle.ec_journal.specs.Ends.{DidAll, EndsBy, TurnedUpTo};
@@ -25,7 +25,7 @@ impl Selected {
     ghost use Rattle.ec_journal.specs.OfLayout.Sides as sides;
     ghost use Rattle.ec_journal.specs.OfLayout.Layout.{Layout, Lies, Follows};
     ghost use Rattle.ec_journal.specs.OfLayout.Pieces.{pieces_of, AreApart};
-    ghost use Rattle.ec_journal.specs.OfLayout.Appends.{with_body, LeavesBody};
+    ghost use Rattle.ec_journal.specs.OfLayout.Appends.{with_body, LeavesBody, StopsWith};
     ghost use Rattle.ec_journal.specs.OfLayout.Selected.{IsOn, IsSelected, side_now, free_now};
 
     /// This side, where the first closed gate of its journal stands `end` bytes behind its first one.
@@ -67,6 +67,7 @@ impl Selected {
         ensures turns { TurnedUpTo 4 (D.counts disk.old).armed (D.counts disk.new).armed (IsOk result) (IsErrOf result fault.DiskStopped) }
         // What was synced before it was there has the layout from before.
         ensures old { OnErr result (D.tells → (l : Layout) → IsOn (D.view disk.old) self.old l → Lies (D.view disk.new).synced l) }
+        ensures halves { IsErrOf result fault.DiskStopped → D.tells → (turn : ℕ) → (D.counts disk.old).armed ≡ Some turn → (l : Layout) → IsOn (D.view disk.old) self.old l → StopsWith turn (D.view disk.new) l entry.now }
         ensures full { free_now self.old < need_of entry.now → IsErrOf result (fault.NoRoom (need_of entry.now) (free_now self.old)) }
         ensures no_room { (need free : ℕ) → IsErrOf result (fault.NoRoom need free) → (need ≡ need_of entry.now) × (free ≡ free_now self.old) × (free < need) × (disk.new ≡ disk.old) }
         ensures no_bad { (at : ℕ) → IsErrOf result (fault.Bad at) → ⊥ }

@@ -1,4 +1,4 @@
-use Rattle.std.proofs.Common.{rules, ◌≡◌, length, IsOk, IsErrOf}
+use Rattle.std.proofs.Common.{rules, ◌≡◌, ◌∙◌, length, IsOk, IsErrOf}
 use Rattle.std.proofs.lemmas.Result.{err_from_is_err_and}
 use Rattle.ec_disk.specs.Calls.{Write, Sync}
 use Rattle.ec_disk.specs.declared.disk.DiskAnswer.TheVariants as said
@@ -68,3 +68,9 @@ returns-in_err-done-2-clause-turned g c =
     (one_turn a b (c.write_at.result ≡ said.Done) (c.write_at.result ≡ said.Stopped) c.write_at.ensures.armed) c.in_ok-done.ensures.ok
     (one_turn b d (c.sync.result ≡ said.Done) (c.sync.result ≡ said.Stopped) c.sync.ensures.armed))
     (λ h. search rules) (λ t. search rules)
+
+pub returns-in_err-done-clause-stopped : goal.returns-in_err-done-clause-stopped
+returns-in_err-done-clause-stopped g c is told = let stopped : c.write_at.result ≡ said.Stopped = search rules in c.write_at.ensures.stopped told stopped
+
+pub returns-in_err-done-2-clause-stopped : goal.returns-in_err-done-2-clause-stopped
+returns-in_err-done-2-clause-stopped g c is told = (c.sync.ensures.rests told).gives ∙ c.write_at.ensures.written told c.in_ok-done.ensures.ok

@@ -22,3 +22,9 @@ returns-in-Ok-clause-kept c told = ap (λ l. Shot.synced (shot_of l)) c.in-Ok.en
 
 pub returns-in-Ok-2-clause-kept : goal.returns-in-Ok-2-clause-kept
 returns-in-Ok-2-clause-kept c told = ap (λ l. Shot.synced (shot_of l)) c.in-Ok.ensures.ok ∙ synced-written c.args.self.now.log.items c.args.at c.args.piece.now
+
+pub returns-in-Ok-clause-stopped : goal.returns-in-Ok-clause-stopped
+returns-in-Ok-clause-stopped c told stopped = ap (λ l. Shot.now (shot_of l)) c.in-Ok.ensures.ok ∙ gives-written c.args.self.now.log.items c.args.at c.args.piece.now
+
+pub returns-in-Ok-2-clause-stopped : goal.returns-in-Ok-2-clause-stopped
+returns-in-Ok-2-clause-stopped c told stopped = ap (λ l. Shot.now (shot_of l)) c.in-Ok.ensures.ok ∙ gives-written c.args.self.now.log.items c.args.at c.args.piece.now

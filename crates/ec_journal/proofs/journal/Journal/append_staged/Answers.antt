@@ -1,10 +1,10 @@
-use Rattle.std.proofs.Common.{rules, ◌≡◌, ◌∙◌, arith, IsOk, IsErrOf}
+use Rattle.std.proofs.Common.{rules, ◌≡◌, ◌≤◌, ◌-◌, ◌∙◌, arith, IsOk, IsErrOf}
 use Rattle.ec_disk.specs.declared.disk.DiskAnswer.TheVariants as said
 use Rattle.ec_disk.specs.Counting.{called_both}
-use Rattle.ec_journal.specs.Ends.{did_both, ends_later, ends_sooner, turns_later, turns_for}
+use Rattle.ec_journal.specs.Ends.{did_both, ends_later, ends_sooner, stops_behind, stops_within, turns_later, turns_for}
 use Rattle.ec_journal.specs.Journal.{FromGate, LeavesOld}
 use Rattle.ec_journal.specs.declared.fault.JournalFault.TheVariants as fault
-use Rattle.ec_journal.proofs.Append.{size-records, first_leaves, both_leave, both_ran, appended, old_stays, ends_for}
+use Rattle.ec_journal.proofs.Append.{size-records, kept_by_first, first_leaves, both_leave, both_ran, given_both, appended, old_stays, ends_for}
 use Rattle.ec_journal.proofs.journal.Journal.append_staged.Goals as goal
 
 pub returns-in_err-write_staged-clause-any_moment : goal.returns-in_err-write_staged-clause-any_moment
@@ -120,3 +120,29 @@ returns-in_err-write_synced-clause-old g c =
     (c.write_staged.ensures.ran told) (g.met.D.Disk.given told c.write_staged.new.disk) (c.in_ok-write_staged.ensures.written told) (c.in_ok-write_staged.ensures.synced told)
     (g.D.Disk.view c.write_synced.new.disk) (c.write_synced.ensures.ran told) (c.in_err-write_synced.ensures.kept told ∙ c.in_ok-write_staged.ensures.saved told) in
     search (rules, old)
+
+pub returns-in_err-write_staged-clause-halves : goal.returns-in_err-write_staged-clause-halves
+returns-in_err-write_staged-clause-halves g c is told turn armed =
+    let j = c.args.self.now in
+    let stopped : IsErrOf c.write_staged.result fault.DiskStopped = search rules in
+    let within : turn ≤ 2 = stops_within 2 turn (g.D.Disk.counts c.args.disk.now).armed (g.D.Disk.counts c.write_staged.new.disk).armed (IsOk c.write_staged.result) (IsErrOf c.write_staged.result fault.DiskStopped) c.write_staged.ensures.turned stopped armed in
+    record {
+      early = λ first bodies on image left.
+          kept_by_first j.at j.size j.end bodies c.args.entry.now on.ends (omega (arith, c.size-size.ensures.small)) (omega (arith, c.in_ok-find_room.ensures, c.size-size.ensures.size)) j.room (g.D.Disk.view c.args.disk.now) (g.D.Disk.view c.write_staged.new.disk) on.each
+          (c.write_staged.ensures.ran told) image ((c.write_staged.ensures.ran told).crash image left);
+      late = λ third. absurd (omega (arith, within, third));
+    }
+
+pub returns-in_err-write_synced-clause-halves : goal.returns-in_err-write_synced-clause-halves
+returns-in_err-write_synced-clause-halves g c is told turn armed =
+    let j = c.args.self.now in
+    let stopped : IsErrOf c.write_synced.result fault.DiskStopped = search rules in
+    let went : IsOk c.write_staged.result = search rules in
+    let behind : 2 ≤ turn - 1 = stops_behind 2 turn (g.D.Disk.counts c.args.disk.now).armed (g.D.Disk.counts c.write_staged.new.disk).armed (IsOk c.write_staged.result) (IsErrOf c.write_staged.result fault.DiskStopped) c.write_staged.ensures.turned went armed in
+    record {
+      early = λ first. absurd (omega (arith, behind, first));
+      late = λ third bodies on.
+          given_both j.at j.size j.end bodies c.args.entry.now on.ends (omega (arith, c.size-size.ensures.small)) (omega (arith, c.in_ok-find_room.ensures, c.size-size.ensures.size)) j.room (g.D.Disk.view c.args.disk.now) (g.D.Disk.view c.write_staged.new.disk) on.each
+          (c.write_staged.ensures.ran told) (g.met.D.Disk.given told c.write_staged.new.disk) (c.in_ok-write_staged.ensures.written told) (c.in_ok-write_staged.ensures.synced told)
+          (g.D.Disk.view c.write_synced.new.disk) (c.write_synced.ensures.ran told) (c.write_synced.ensures.stopped stopped told) (g.met.D.Disk.given told c.write_synced.new.disk);
+    }
