@@ -123,7 +123,7 @@ def full_folders():
 
 
 def long_lines():
-    for path in [f"{ROOT}/README.md"] + sorted(glob.glob(f"{ROOT}/docs/*.md")):
+    for path in [f"{ROOT}/README.md"] + sorted(glob.glob(f"{ROOT}/docs/**/*.md", recursive=True)):
         for number, line in enumerate(read(path).split("\n"), 1):
             if len(line) > WIDTH:
                 yield f"{inside(path)}:{number} ({len(line)})"

@@ -1,9 +1,10 @@
 #!/usr/bin/env python3
 """Looks whether what the pages cite in backquotes is there. Usage: docs/names.py   (it fails where something isn't, and says where)
 
-Looked for are crates, files, edits and names, in README and docs: each crate is one of crates.txt, each file stands in the repository, and each name is declared
-somewhere. More is asked where a page says of which crate it speaks: `ec_order`, `Order.antt` has to be a file of that crate, `IsLegal` (`ec_history`) and
-`ec_history`: `IsLegal` have to be declared there, and so has `IsLegal` in `Histories.antt` of (`ec_history`, `Histories.antt`)."""
+Looked for are crates, files, edits and names, in README and docs: each crate is one of crates.txt, each file stands in the repository, and each name is
+declared somewhere. A link leads to a file that is there, and to a heading of it. More is asked where a page says of which crate it speaks: `ec_order`,
+`Order.antt` has to be a file of that crate, `IsLegal` (`ec_history`) and `ec_history`: `IsLegal` have to be declared there, and so has `IsLegal` in
+`Histories.antt` of (`ec_history`, `Histories.antt`)."""
 import collections
 import functools
 import glob
@@ -13,7 +14,7 @@ import subprocess
 import sys
 
 ROOT = os.path.dirname(os.path.dirname(os.path.realpath(__file__)))
-PAGES = ["README.md"] + sorted(os.path.relpath(path, ROOT) for path in glob.glob(f"{ROOT}/docs/*.md"))
+PAGES = ["README.md"] + sorted(os.path.relpath(path, ROOT) for path in glob.glob(f"{ROOT}/docs/**/*.md", recursive=True))
 ENDING = r"\.(?:antt|rt|py|sh|md|edit|script|transcript|svg|txt|c)\b"
 # What isn't here: the bench's crate, which is none while it isn't built, files that runs make, and names of the language, std and other crates.
 ELSEWHERE = set("ec_bench lose.script lose.transcript echofs.disk Bool Debug Display FinMap Entries where_key is_sorted get_mut Slab PartialEq impl ECHOFS1".split())
@@ -138,11 +139,29 @@ def misplaced(text):
                 yield it.start(), f"{it[3]} of {crate} has no {name}"
 
 
+def anchors(page):
+    """The anchors of a page's headings."""
+    return {re.sub(r"[^\w -]", "", heading.lower()).strip().replace(" ", "-") for heading in re.findall(r"^#+ (.*)$", read(page), re.M)}
+
+
+def dead_links(page, text):
+    """Links to files or headings that there aren't."""
+    for it in re.finditer(r"\]\(([^()\s]+)\)", text):
+        path, _, anchor = it[1].partition("#")
+        to = os.path.normpath(os.path.join(os.path.dirname(page), path)) if path else page
+        if "://" in it[1]:
+            continue
+        if not os.path.exists(f"{ROOT}/{to}"):
+            yield it.start(), f"no file {to}"
+        elif anchor and anchor not in anchors(to):
+            yield it.start(), f"{to} has no heading {anchor}"
+
+
 def main():
     found = []
     for page in PAGES:
         text, starts = text_of(page)
-        for at, what in list(unknown_spans(text)) + list(misplaced(text)):
+        for at, what in [*unknown_spans(text), *misplaced(text), *dead_links(page, text)]:
             line = sum(start <= at for start in starts)
             found.append(f"{page}:{line}: {what}")
     for it in sorted(set(found), key=lambda it: (it.split(":")[0], int(it.split(":")[1]))):
