@@ -4,7 +4,7 @@
 Looked for are crates, files, edits and names, in README and docs: each crate is one of crates.txt, each file stands in the repository, and each name is
 declared somewhere. A link leads to a file that is there, and to a heading of it. More is asked where a page says of which crate it speaks: `ec_order`,
 `Order.antt` has to be a file of that crate, `IsLegal` (`ec_history`) and `ec_history`: `IsLegal` have to be declared there, and so has `IsLegal` in
-`Histories.antt` of (`ec_history`, `Histories.antt`)."""
+`Histories.antt` of (`ec_history`, `Histories.antt`) or (`Histories.antt`)."""
 import collections
 import functools
 import glob
@@ -137,6 +137,10 @@ def misplaced(text):
                 yield it.start(), f"{crate} has no {name}"
             elif it[3] and name != "and" and not any(name in names_of(path) for path in files() if path.startswith(f"crates/{crate}/") and path.endswith(f"/{it[3]}")):
                 yield it.start(), f"{it[3]} of {crate} has no {name}"
+    for it in re.finditer(rf"({LIST}) \(`(\w+\.antt)`\)", text):
+        for name in listed(it[1]):
+            if CITED.match(name) and name not in crates() and not any(has_all(names_of(path), name) for path in files() if path.endswith(f"/{it[2]}")):
+                yield it.start(), f"no {it[2]} has {name}"
 
 
 def anchors(page):
