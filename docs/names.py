@@ -2,9 +2,9 @@
 """Looks whether what the pages cite in backquotes is there. Usage: docs/names.py   (it fails where something isn't, and says where)
 
 Looked for are crates, files, edits and names, in README and docs: each crate is one of crates.txt, each file stands in the repository, and each name is
-declared somewhere. A link leads to a file that is there, and to a heading of it. More is asked where a page says of which crate it speaks: `ec_order`,
-`Order.antt` has to be a file of that crate, `IsLegal` (`ec_history`) and `ec_history`: `IsLegal` have to be declared there, and so has `IsLegal` in
-`Histories.antt` of (`ec_history`, `Histories.antt`) or (`Histories.antt`)."""
+declared somewhere. A link leads to a file that is there, and to a heading of it. Each crate stands on the page of its family. More is asked where a page says
+of which crate it speaks: `ec_order`, `Order.antt` has to be a file of that crate, `IsLegal` (`ec_history`) and `ec_history`: `IsLegal` have to be declared
+there, and so has `IsLegal` in `Histories.antt` of (`ec_history`, `Histories.antt`) or (`Histories.antt`)."""
 import collections
 import functools
 import glob
@@ -161,8 +161,19 @@ def dead_links(page, text):
             yield it.start(), f"{to} has no heading {anchor}"
 
 
+def unlisted():
+    """Crates that aren't on the page of their family, by the headings of crates.txt."""
+    page = None
+    for row in read("crates.txt").split("\n"):
+        family, crate = re.match(r"# (\w+):", row), re.match(r"(\w+):", row)
+        if family:
+            page = f"docs/families/{family[1].lower()}.md"
+        if crate and not (page in PAGES and re.search(rf"^- `{crate[1]}`:", read(page), re.M)):
+            yield f"{page}:1: no {crate[1]}, a crate of this family"
+
+
 def main():
-    found = []
+    found = list(unlisted())
     for page in PAGES:
         text, starts = text_of(page)
         for at, what in [*unknown_spans(text), *misplaced(text), *dead_links(page, text)]:
