@@ -87,6 +87,10 @@ module _ (r : Record) (body : List ℕ) (fits : record_code.fits r ≡ true) (sp
         either c (inr lies) =
             inr (e, stepped, lies_stands c (with_body body h.layout) h.base e h.places lies (with_more h.layout body h.base h.places h.checkpoint) (steps_more h.layout.bodies body r h.base d e h.steps body_is stepped))
 
+    -- an image with the record behind the others
+    pub append_given : (image : List ℕ) → ((l : Layout) → IsOn old selected l → Lies image (with_body body l)) → StandsFor image e
+    append_given image lies = lies_stands image (with_body body h.layout) h.base e h.places (lies h.layout h.on) (with_more h.layout body h.base h.places h.checkpoint) (steps_more h.layout.bodies body r h.base d e h.steps body_is stepped)
+
     pub append_holds : (later : Selected) (fewer : List (ℕ × ℕ)) → ((l : Layout) → IsOn old selected l → IsOn new later (with_body body l))
         → ((o : ℕ) → at o fewer ≡ cond (member o (touched r)) None (at o kept)) → StoreHolds new later named fewer e
     append_holds later fewer on left = record {

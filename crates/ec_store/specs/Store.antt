@@ -1,5 +1,5 @@
 -- When a disk holds what a store has.
-use Rattle.std.specs.Prelude.{◌≡◌, ◌⊎◌, ◌<◌, ◌≤◌, ℕ, true, false, List, [], ◌∷◌, Ok, Option, Some}
+use Rattle.std.specs.Prelude.{◌≡◌, ◌⊎◌, ◌<◌, ◌≤◌, ◌+◌, ℕ, true, false, List, [], ◌∷◌, Ok, Option, Some}
 use Rattle.ec_base.specs.Tables.{at}
 use Rattle.ec_disk.specs.Calls.{Call}
 use Rattle.ec_disk.specs.Disk.{View}
@@ -63,6 +63,20 @@ pub record CommitTurns (need free : ℕ) (old new : Option ℕ) (Going Stopping 
   pub turned : TurnedUpTo most old new Going Stopping
   pub room : need ≤ free → most ≡ 4
   pub no_room : free < need → 9 ≤ most
+
+-- How a commit that stopped in the turn with this number, of so many, left the disk of a state. Before the last two turns each image that a crash may leave stands
+-- for that state; in these a read gives the stepped one.
+pub record Halves (most turn : ℕ) (now : View) (r : Record) (d : Durable) : Type 0 where
+  pub early : turn + 2 ≤ most → (image : List ℕ) → now.may_leave image → StandsFor image d
+  pub late : most ≤ turn + 1 → (e : Durable) → step r d ≡ Ok e → StandsFor now.gives e
+
+-- four turns where the journal has room, and else those of a checkpoint and four more
+pub record StopsHalfway (need free turn : ℕ) (now : View) (r : Record) (d : Durable) : Type 0 where
+  pub most : ℕ
+  pub room : need ≤ free → most ≡ 4
+  pub no_room : free < need → 9 ≤ most
+  pub within : turn ≤ most
+  pub halves : Halves most turn now r d
 
 -- behind a want of memory no call was made, or the disk itself lacked it in the last one
 abbrev pub LacksMemory : {D : Type 0} → (D → Call → D → Type 0) → D → D → Type 0

@@ -1,5 +1,5 @@
 // Records are committed: each is on the disk whole, or not at all.
-ghost use Rattle.std.specs.Prelude.{◌≡◌, ◌≤◌, ℕ, None, if◌then◌else◌, length, OnOk, OnErr, IsOk, IsErrOf};
+ghost use Rattle.std.specs.Prelude.{◌≡◌, ◌≤◌, ℕ, None, Some, if◌then◌else◌, length, OnOk, OnErr, IsOk, IsErrOf};
 ghost use Rattle.ec_base.specs.Tables.{at};
 ghost use Rattle.ec_volume.specs.Update.{member};
 ghost use Rattle.ec_volume.specs.Volume.{WellFormed, images};
@@ -10,7 +10,7 @@ ghost use Rattle.ec_journal.specs.Ends.{EndsBy, TurnedUpTo};
 ghost use Rattle.ec_journal.specs.RecordBytes.{max_record_bytes};
 ghost use Rattle.ec_journal.specs.Journal.{need_of};
 ghost use Rattle.ec_journal.specs.OfLayout.Layout.{Layout, Lies};
-ghost use Rattle.ec_journal.specs.OfLayout.Appends.{with_body, LeavesBody};
+ghost use Rattle.ec_journal.specs.OfLayout.Appends.{with_body, LeavesBody, StopsWith};
 ghost use Rattle.ec_journal.specs.OfLayout.Selected.{IsOn, free_now};
 ghost use Rattle.ec_store.specs.Faults.{IsDiskFault};
 ghost use Rattle.ec_store.specs.Places.{ArePlaces};
@@ -91,7 +91,7 @@ impl Store {
     ghost use Rattle.ec_store.specs.declared.fault.StoreFault.TheVariants as fault;
     ghost use Rattle.ec_store.specs.Places.{touched};
     ghost use Rattle.ec_store.specs.Plan.{PlansFor};
-    ghost use Rattle.ec_store.specs.Store.{IsHeld, StandsForEither, CommitTurns, LacksMemory, view_of};
+    ghost use Rattle.ec_store.specs.Store.{IsHeld, StandsForEither, CommitTurns, Halves, StopsHalfway, LacksMemory, view_of};
 
     /// The state.
     pub fn view(&self) -> &Durable
@@ -291,6 +291,8 @@ impl Store {
         ensures turned { CommitTurns (need_of (record_code.spell change.now)) (free_now self.old.selected) (D.counts disk.old).armed (D.counts disk.new).armed (IsOk result) (IsErrOf result fault.DiskStopped) }
         // Whichever call a fault came in, what was synced by then stands for the state before.
         ensures old { OnErr result (D.tells → IsHeld (D.view disk.old) self.old → StandsFor (D.view disk.new).synced (view_of self.old)) }
+        // Where it stopped, the number that the disk was armed with tells what is there.
+        ensures halves { IsErrOf result fault.DiskStopped → D.tells → IsHeld (D.view disk.old) self.old → (turn : ℕ) → (D.counts disk.old).armed ≡ Some turn → StopsHalfway (need_of (record_code.spell change.now)) (free_now self.old.selected) turn (D.view disk.new) change.now (view_of self.old) }
         // A live object that neither this record nor one of the journal's names keeps its slot.
         ensures kept { OnOk result ((o slot : ℕ) → at o self.old.kept ≡ Some slot → is_gone (images (view_of self.old).volume o) ≡ false → member o (touched change.now) ≡ false → at o self.new.kept ≡ Some slot) }
     {
@@ -331,6 +333,7 @@ impl Store {
         ensures calls { OnOk result (Called 4 (D.counts disk.old) (D.counts disk.new)) }
         ensures no_memory { IsErrOf result fault.NoMemory → LacksMemory D.does disk.old disk.new }
         ensures turned { TurnedUpTo 4 (D.counts disk.old).armed (D.counts disk.new).armed (IsOk result) (IsErrOf result fault.DiskStopped) }
+        ensures halves { IsErrOf result fault.DiskStopped → D.tells → IsHeld (D.view disk.old) self.old → (turn : ℕ) → (D.counts disk.old).armed ≡ Some turn → (turn ≤ 4) × Halves 4 turn (D.view disk.new) change.now (view_of self.old) }
         ensures old { OnErr result (D.tells → IsHeld (D.view disk.old) self.old → StandsFor (D.view disk.new).synced (view_of self.old)) }
         ensures kept { OnOk result ((o slot : ℕ) → at o self.old.kept ≡ Some slot → is_gone (images (view_of self.old).volume o) ≡ false → member o (touched change.now) ≡ false → at o self.new.kept ≡ Some slot) }
     {
@@ -380,6 +383,7 @@ impl Store {
         ensures counts { Counted (D.counts disk.old) (D.counts disk.new) (IsErrOf result fault.DiskFailed) (IsErrOf result fault.DiskStopped) }
         ensures no_memory { IsErrOf result fault.NoMemory → LacksMemory D.does disk.old disk.new }
         ensures turned { TurnedUpTo (length plan.pieces.items + 9) (D.counts disk.old).armed (D.counts disk.new).armed (IsOk result) (IsErrOf result fault.DiskStopped) }
+        ensures halves { IsErrOf result fault.DiskStopped → D.tells → IsHeld (D.view disk.old) self.old → (turn : ℕ) → (D.counts disk.old).armed ≡ Some turn → (turn ≤ length plan.pieces.items + 9) × Halves (length plan.pieces.items + 9) turn (D.view disk.new) change.now (view_of self.old) }
         ensures old { OnErr result (D.tells → IsHeld (D.view disk.old) self.old → StandsFor (D.view disk.new).synced (view_of self.old)) }
         ensures kept { OnOk result ((o slot : ℕ) → at o self.old.kept ≡ Some slot → is_gone (images (view_of self.old).volume o) ≡ false → member o (touched change.now) ≡ false → at o self.new.kept ≡ Some slot) }
     {
@@ -423,6 +427,7 @@ fn append<D: Disk>(selected: &mut Selected, disk: &mut D, entry: &Staged) -> Res
     ensures no_memory { IsErrOf result fault.NoMemory → EndsBy D.does said.NoMemory 4 disk.old disk.new }
     ensures turned { TurnedUpTo 4 (D.counts disk.old).armed (D.counts disk.new).armed (IsOk result) (IsErrOf result fault.DiskStopped) }
     ensures old { OnErr result (D.tells → (l : Layout) → IsOn (D.view disk.old) selected.old l → Lies (D.view disk.new).synced l) }
+    ensures halves { IsErrOf result fault.DiskStopped → D.tells → (turn : ℕ) → (D.counts disk.old).armed ≡ Some turn → (l : Layout) → IsOn (D.view disk.old) selected.old l → StopsWith turn (D.view disk.new) l entry.now }
     ensures disk { IsDiskFault result }
     ensures counts { Counted (D.counts disk.old) (D.counts disk.new) (IsErrOf result fault.DiskFailed) (IsErrOf result fault.DiskStopped) }
 {

@@ -1,17 +1,18 @@
-use Rattle.std.proofs.Common.{rules, arith, ℕ, List, cond, None, ap, sym, subst, inl, inr, ◌∙◌}
+use Rattle.std.proofs.Common.{rules, arith, ℕ, IsOk, List, cond, None, ap, sym, subst, inl, inr, ◌∙◌}
 use Rattle.std.specs.Prelude.{IsErrOf}
 use Rattle.ec_base.specs.Tables.{at}
 use Rattle.ec_volume.specs.Update.{member}
 use Rattle.ec_durable.specs.CodeLaws.{sound_steps}
 use Rattle.ec_durable.proofs.Kept.{below_kept, step_kept}
 use Rattle.ec_store.specs.Places.{ArePlaces}
+use Rattle.ec_journal.specs.Ends.{stops_within}
 use Rattle.ec_journal.proofs.OfLayout.Calls.{turns_none, turns_within}
 use Rattle.ec_stands.specs.Stands.{StandsFor}
 use Rattle.ec_store.specs.Store.{StoreHolds, StandsForEither}
 use Rattle.ec_store.specs.declared.fault.StoreFault.TheVariants as fault
 use Rattle.ec_store.proofs.Members.{left_kept}
 use Rattle.ec_store.proofs.Images.{step_most}
-use Rattle.ec_store.proofs.Holding.{leaves_none, held_stands, held_lies, append_leaves, append_holds, fewer_places, still_formed}
+use Rattle.ec_store.proofs.Holding.{leaves_none, held_stands, held_lies, append_leaves, append_given, append_holds, fewer_places, still_formed}
 use Rattle.ec_store.proofs.Trying.{left_is}
 use Rattle.ec_store.proofs.store.Store.add.Goals as goal
 
@@ -94,3 +95,16 @@ returns-in_err-append-clause-old g c =
     let new = g.D.Disk.view c.append.new.disk in
     let stands : g.D.Disk.tells → StoreHolds now s.selected s.named.items s.kept s.state → StandsFor new.synced s.state = λ told held. held_lies now s.selected s.named.items s.kept s.state held new.synced (λ l on. c.in_err-append.ensures.old told l on) in
     search (rules, stands)
+
+pub returns-in_err-append-clause-halves : goal.returns-in_err-append-clause-halves
+returns-in_err-append-clause-halves g c is told held turn armed =
+    let s = c.args.self.now in
+    let now = g.D.Disk.view c.args.disk.now in
+    let new = g.D.Disk.view c.append.new.disk in
+    let stopped : IsErrOf c.append.result fault.DiskStopped = search rules in
+    let way = c.append.ensures.halves stopped told turn armed in
+    (stops_within 4 turn (g.D.Disk.counts c.args.disk.now).armed (g.D.Disk.counts c.append.new.disk).armed (IsOk c.append.result) (IsErrOf c.append.result fault.DiskStopped) c.append.ensures.turned stopped armed, record {
+      early = λ first image left. held_lies now s.selected s.named.items s.kept s.state held image (λ l on. (way l on).early (omega (arith, first)) image left);
+      late = λ last e stepped.
+          append_given c.args.change.now c.args.entry.now c.requires.fits c.requires.spelled (sound_steps c.args.change.now c.requires.sound) s.state e stepped now new s.selected s.named.items s.kept held new.gives (λ l on. (way l on).late (omega (arith, last)));
+    })

@@ -1,4 +1,4 @@
-use Rattle.std.proofs.Common.{rules, ◌≤◌, ◌<◌, length, inl, IsOk, IsErrOf}
+use Rattle.std.proofs.Common.{rules, arith, refl, ◌+◌, ◌≤◌, ◌<◌, length, inl, IsOk, IsErrOf}
 use Rattle.ec_durable.specs.Codes.{record_code}
 use Rattle.ec_journal.specs.Journal.{need_of}
 use Rattle.ec_journal.specs.OfLayout.Selected.{free_now}
@@ -97,3 +97,15 @@ pub returns-clause-turned : goal.returns-clause-turned
 returns-clause-turned g c =
     let none : free_now c.args.self.now.selected < need_of (record_code.spell c.args.change.now) = search rules in
     commit_turn (need_of (record_code.spell c.args.change.now)) (free_now c.args.self.now.selected) (length c.in_ok-plan.plan.pieces.items) (g.D.Disk.counts c.args.disk.now).armed (g.D.Disk.counts c.turn_and_add.new.disk).armed (IsOk c.turn_and_add.result) (IsErrOf c.turn_and_add.result fault.DiskStopped) none c.turn_and_add.ensures.turned
+
+pub returns-then-has_room-clause-halves : goal.returns-then-has_room-clause-halves
+returns-then-has_room-clause-halves g c is told held turn armed =
+    let room : need_of (record_code.spell c.args.change.now) ≤ free_now c.args.self.now.selected = search rules in
+    let way = c.add.ensures.halves is told held turn armed in
+    record { most = 4; room = λ le. refl; no_room = λ lt. absurd (omega (arith, lt, room)); within = way.0; halves = way.1 }
+
+pub returns-clause-halves : goal.returns-clause-halves
+returns-clause-halves g c is told held turn armed =
+    let none : free_now c.args.self.now.selected < need_of (record_code.spell c.args.change.now) = search rules in
+    let way = c.turn_and_add.ensures.halves is told held turn armed in
+    record { most = length c.in_ok-plan.plan.pieces.items + 9; room = λ le. absurd (omega (arith, le, none)); no_room = λ lt. omega arith; within = way.0; halves = way.1 }

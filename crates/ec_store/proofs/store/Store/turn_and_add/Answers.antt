@@ -1,10 +1,11 @@
-use Rattle.std.proofs.Common.{rules, arith, ◌≡◌, ◌+◌, ℕ, List, length, cond, false, None, Some, ap, sym, subst, inl, inr, ◌∙◌, ◌*◌, IsOk, IsErrOf}
+use Rattle.std.proofs.Common.{rules, arith, ◌≡◌, ◌+◌, ◌-◌, ◌≤◌, Option, ℕ, List, length, cond, false, None, Some, ap, sym, subst, inl, inr, ◌∙◌, ◌*◌, IsOk, IsErrOf}
 use Rattle.ec_disk.specs.declared.disk.DiskAnswer.TheVariants as said
-use Rattle.ec_journal.specs.Ends.{EndsBy, ends_later, turns_for}
+use Rattle.ec_journal.specs.Ends.{EndsBy, ends_later, stops_behind, stops_within, turns_for}
 use Rattle.ec_journal.proofs.OfLayout.Calls.{turns_none, turns_within, turns_then}
 use Rattle.ec_stands.specs.Stands.{StandsFor}
 use Rattle.ec_store.specs.declared.fault.StoreFault.TheVariants as fault
 use Rattle.ec_base.specs.Tables.{at}
+use Rattle.ec_disk.specs.Disk.{after_calls}
 use Rattle.ec_disk.specs.Runs.{leaves_then}
 use Rattle.ec_volume.specs.Update.{member}
 use Rattle.ec_durable.specs.CodeLaws.{sound_steps}
@@ -20,8 +21,8 @@ use Rattle.ec_store.specs.Store.{StoreHolds, StandsForEither}
 use Rattle.ec_store.proofs.Members.{left_kept, keeps_left}
 use Rattle.ec_store.proofs.Images.{step_most}
 use Rattle.ec_store.proofs.Placing.{placed_keeps}
-use Rattle.ec_store.proofs.Holding.{leaves_none, held_stands, held_lies, append_leaves, append_holds, fewer_places, still_formed}
-use Rattle.ec_store.proofs.Planning.{pieces_stand_apart, new_places_are, plan_leaves_either, plan_lies, plan_holds}
+use Rattle.ec_store.proofs.Holding.{leaves_none, held_stands, held_lies, append_leaves, append_given, append_holds, fewer_places, still_formed}
+use Rattle.ec_store.proofs.Planning.{pieces_stand_apart, new_places_are, plan_leaves, plan_leaves_either, plan_lies, plan_holds}
 use Rattle.ec_store.proofs.Trying.{left_is}
 use Rattle.ec_store.proofs.store.Store.turn_and_add.Goals as goal
 
@@ -229,3 +230,46 @@ returns-in_err-append-clause-old g c =
     let there = plan_holds s.state s.named.items p.kept s.order are c.args.plan p.is Two p.spelled p.fits old s.selected s.kept fewer held mid c.checkpoint-turned.new.self (λ l m follows on. c.checkpoint-turned.ensures.done told c.in_default-done.ensures.ok l m (subst (λ t. Follows (other (side_now s.selected)) t (pieces_of c.as_slice.result.now) l m) (sym c.as_slice-2.ensures.value) (subst (λ ps. Follows (other (side_now s.selected)) c.args.plan.table.items (pieces_of ps) l m) (sym c.as_slice.ensures.value) follows)) on) in
     held_lies mid c.checkpoint-turned.new.self c.args.plan.named.items c.args.plan.kept s.state there new.synced (λ l on. c.in_err-append.ensures.old told l on) in
     search (rules, stands)
+
+pub returns-in-Err-done-clause-halves : goal.returns-in-Err-done-clause-halves
+returns-in-Err-done-clause-halves g c is told held turn armed =
+    let s = c.args.self.now in
+    let p = c.requires.plan in
+    let fewer : (o slot : ℕ) → at o p.kept ≡ Some slot → at o s.kept ≡ Some slot = λ o slot found. (left_kept o slot (member o c.args.ids.now) (at o p.kept) (at o s.kept) (p.left o) found).0 in
+    let are = fewer_places s.state.max_objects s.named.items s.kept p.kept s.places fewer in
+    let old = g.D.Disk.view c.args.disk.now in
+    let mid = g.D.Disk.view c.checkpoint-turned.new.disk in
+    let n = length c.as_slice.result.now + 5 in
+    let stopped : c.checkpoint-turned.result ≡ said.Stopped = search rules in
+    let few : turn ≤ n = stops_within n turn (g.D.Disk.counts c.args.disk.now).armed (g.D.Disk.counts c.checkpoint-turned.new.disk).armed (c.checkpoint-turned.result ≡ said.Done) (c.checkpoint-turned.result ≡ said.Stopped) c.checkpoint-turned.ensures.turns stopped armed in
+    let only = plan_leaves s.state s.named.items p.kept s.order are c.args.plan p.is Two p.spelled p.fits old s.selected s.kept fewer held mid (λ l m follows on. c.checkpoint-turned.ensures.any_moment told l m (subst (λ t. Follows (other (side_now s.selected)) t (pieces_of c.as_slice.result.now) l m) (sym c.as_slice-2.ensures.value) (subst (λ ps. Follows (other (side_now s.selected)) c.args.plan.table.items (pieces_of ps) l m) (sym c.as_slice.ensures.value) follows)) on) in
+    (omega (arith, few, ap length c.as_slice.ensures.value), record {
+      early = λ first image left. only.each image (g.met.D.Disk.counts_now told c.checkpoint-turned.new.disk old.moment image only.later left);
+      late = λ last. absurd (omega (arith, few, last, ap length c.as_slice.ensures.value));
+    })
+
+pub returns-in_err-append-clause-halves : goal.returns-in_err-append-clause-halves
+returns-in_err-append-clause-halves g c is told held turn armed =
+    let s = c.args.self.now in
+    let p = c.requires.plan in
+    let fewer : (o slot : ℕ) → at o p.kept ≡ Some slot → at o s.kept ≡ Some slot = λ o slot found. (left_kept o slot (member o c.args.ids.now) (at o p.kept) (at o s.kept) (p.left o) found).0 in
+    let are = fewer_places s.state.max_objects s.named.items s.kept p.kept s.places fewer in
+    let old = g.D.Disk.view c.args.disk.now in
+    let mid = g.D.Disk.view c.checkpoint-turned.new.disk in
+    let new = g.D.Disk.view c.append.new.disk in
+    let a = (g.D.Disk.counts c.args.disk.now).armed in
+    let b = (g.D.Disk.counts c.checkpoint-turned.new.disk).armed in
+    let n = length c.as_slice.result.now + 5 in
+    let stopped : IsErrOf c.append.result fault.DiskStopped = search rules in
+    let went = c.in_default-done.ensures.ok in
+    let turns = c.checkpoint-turned.ensures.turns in
+    let behind : n ≤ turn - 1 = stops_behind n turn a b (c.checkpoint-turned.result ≡ said.Done) (c.checkpoint-turned.result ≡ said.Stopped) turns went armed in
+    let armed_mid : b ≡ Some (turn - n) = turns.turned.next ∙ ap (λ (o : Option ℕ). after_calls turns.turns o) armed ∙ ap (λ (k : ℕ). Some (turn - k)) (turns.all went) in
+    let there = plan_holds s.state s.named.items p.kept s.order are c.args.plan p.is Two p.spelled p.fits old s.selected s.kept fewer held mid c.checkpoint-turned.new.self (λ l m follows on. c.checkpoint-turned.ensures.done told went l m (subst (λ t. Follows (other (side_now s.selected)) t (pieces_of c.as_slice.result.now) l m) (sym c.as_slice-2.ensures.value) (subst (λ ps. Follows (other (side_now s.selected)) c.args.plan.table.items (pieces_of ps) l m) (sym c.as_slice.ensures.value) follows)) on) in
+    let way = c.append.ensures.halves stopped told (turn - n) armed_mid in
+    let few : turn - n ≤ 4 = stops_within 4 (turn - n) b (g.D.Disk.counts c.append.new.disk).armed (IsOk c.append.result) (IsErrOf c.append.result fault.DiskStopped) c.append.ensures.turned stopped armed_mid in
+    (omega (arith, few, ap length c.as_slice.ensures.value), record {
+      early = λ first image left. held_lies mid c.checkpoint-turned.new.self c.args.plan.named.items c.args.plan.kept s.state there image (λ l on. (way l on).early (omega (arith, first, ap length c.as_slice.ensures.value)) image left);
+      late = λ last e stepped.
+          append_given c.args.change.now c.args.entry.now c.requires.fits c.requires.spelled (sound_steps c.args.change.now c.requires.sound) s.state e stepped mid new c.checkpoint-turned.new.self c.args.plan.named.items c.args.plan.kept there new.gives (λ l on. (way l on).late (omega (arith, last, behind, ap length c.as_slice.ensures.value)));
+    })
