@@ -107,31 +107,31 @@ came_fate false = tt
 came_fate true = tt
 
 -- the choice of the world allows it
-pub chosen_by : (ch : Choice) (d : Durable) (now : View) (there : Bool) (before after : List Shown) → after ≡ before ++ show.Stopped ∷ [] → StandsFor now.synced d → TakesBack ch d now there → IsShown (fate_of there) ch before after
+pub chosen_by : (ch : Choice) (d e : Durable) (now : View) (there : Bool) (before after : List Shown) → after ≡ before ++ show.Stopped ∷ [] → StandsFor now.synced d → TakesBack ch d e now there → IsShown (fate_of there) ch before after
 unfolding fate_of
-chosen_by choice.Old d now false before after is synced back = is
-chosen_by choice.Old d now true before after is synced back = absurd (apart (back synced))
+chosen_by choice.Old d e now false before after is synced back = is
+chosen_by choice.Old d e now true before after is synced back = absurd (apart (back synced))
   where
     apart : true ≡ false → ⊥
-    apart e = cc
-chosen_by choice.New d now false before after is synced back = is
-chosen_by choice.New d now true before after is synced back = (is, tt)
-chosen_by choice.Torn d now false before after is synced back = is
-chosen_by choice.Torn d now true before after is synced back = (is, tt)
+    apart is_so = cc
+chosen_by choice.New d e now false before after is synced back = is
+chosen_by choice.New d e now true before after is synced back = (is, tt)
+chosen_by choice.Torn d e now false before after is synced back = is
+chosen_by choice.Torn d e now true before after is synced back = (is, tt)
 
 stop_line : (there : Bool) (r : Record) (w : Moved) → (show_line show.Stopped (moving (stopped_in there r w))).world.shown ≡ w.shown ++ show.Stopped ∷ []
 stop_line false r w = refl
 stop_line true r w = refl
 
 pub stop_finishes : (tells : Type 0) (done : Serving) (d : Durable) (s : Option State) (now : View) (r : Record) (there : Bool) (old new : World) → InDoubt tells done d now r
-    → (tells → show_line show.Stopped (moving (stopped_in there r (with_durable d (view_of old)))) ≡ under new) → (tells → TakesBack old.choice d now there)
+    → (tells → show_line show.Stopped (moving (stopped_in there r (with_durable d (view_of old)))) ≡ under new) → (tells → TakesBack old.choice d done.server.durable now there)
     → Finishes tells (Unit {0}) old.choice (view_of old).shown (λ fate. served fate done (serves s d (view_of old))) (under new)
 stop_finishes tells done d s now r there old new h shows back = (
   fate_of there,
   came_fate there,
   λ told. served_commits (fate_of there) r done (serves s d (view_of old)) h.unspent h.rec_is ∙ stop_shows there r done d s (view_of old) ∙ shows (told_fate there tells told),
   λ told.
-      chosen_by old.choice d now there (view_of old).shown (view_of new).shown (ap (λ (m : Moving). m.world.shown) (sym (shows told)) ∙ stop_line there r (with_durable d (view_of old)))
+      chosen_by old.choice d done.server.durable now there (view_of old).shown (view_of new).shown (ap (λ (m : Moving). m.world.shown) (sym (shows told)) ∙ stop_line there r (with_durable d (view_of old)))
       (h.synced told) (back told),
 )
 
@@ -210,7 +210,7 @@ done_left tells done d s w now x served' mark image is h told left =
     some_left done d (served runs done (serves s d (view_of w))) image (behind done (serves s d (view_of w))) (done_leaves tells done d w now served' mark (subst (CameTo tells done d w now) is h) told image left)
 
 pub stopped_finishes : (tells : Type 0) (done : Serving) (d : Durable) (s : Option State) (w new : World) (now : View) (x : Came Served) (mark : Mark) → x ≡ came.Stopped mark → CameTo tells done d w now x
-    → ((r : Record) (c e : Durable) → IsMark mark r c w.records.items → step r c ≡ Ok e → (tells → LeavesEither r c now) → (there : Bool) × (tells → show_line show.Stopped (moving (stopped_in there r (with_durable c (view_of w)))) ≡ under new) × (tells → TakesBack w.choice c now there))
+    → ((r : Record) (c e : Durable) → IsMark mark r c w.records.items → step r c ≡ Ok e → (tells → LeavesEither r c now) → (there : Bool) × (tells → show_line show.Stopped (moving (stopped_in there r (with_durable c (view_of w)))) ≡ under new) × (tells → TakesBack w.choice c e now there))
     → Finishes tells (HasStoppedIn x) w.choice (view_of w).shown (λ fate. served fate done (serves s d (view_of w))) (under new)
 stopped_finishes tells done d s w new now x mark is h shows =
     let came_to : CameTo tells done d w now (came.Stopped mark) = subst (CameTo tells done d w now) is h in

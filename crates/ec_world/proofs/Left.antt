@@ -76,8 +76,15 @@ pub sign_tells_not : (s : Sign) (r : Record) (d e left : Durable) (image : List 
 sign_tells_not s r d e left image is takes stands before =
     ap (λ (t : Sign). is_there t left) is ∙ ap (λ (y : Durable). is_there (sign_of r) y) (one_state image left d stands before) ∙ (signs_tell r d e takes).0
 
--- a power cut takes back what wasn't synced, where its choice says so
-pub takes_back : (ch : Choice) (s : Sign) (r : Record) (d e left : Durable) (now : View) (gives : List ℕ) → s ≡ sign_of r → step r d ≡ Ok e → gives ≡ cut ch now.gives now.synced → StandsFor gives left → TakesBack ch d now (is_there s left)
-takes_back choice.Old s r d e left now gives is takes leaves stands = λ before. sign_tells_not s r d e left now.synced is takes (subst (λ (image : List ℕ). StandsFor image left) leaves stands) before
-takes_back choice.New s r d e left now gives is takes leaves stands = tt
-takes_back choice.Torn s r d e left now gives is takes leaves stands = tt
+-- and what stands for the stepped one is
+sign_tells_there : (s : Sign) (r : Record) (d e left : Durable) (image : List ℕ) → s ≡ sign_of r → step r d ≡ Ok e → StandsFor image left → StandsFor image e → is_there s left ≡ true
+sign_tells_there s r d e left image is takes stands behind =
+    ap (λ (t : Sign). is_there t left) is ∙ ap (λ (y : Durable). is_there (sign_of r) y) (one_state image left e stands behind) ∙ (signs_tell r d e takes).1
+
+-- what a power cut leaves of the record, by its choice
+pub takes_back : (ch : Choice) (s : Sign) (r : Record) (d e left : Durable) (now : View) (gives : List ℕ) → s ≡ sign_of r → step r d ≡ Ok e → gives ≡ cut ch now.gives now.synced → now.may_leave gives → StandsFor gives left → TakesBack ch d e now (is_there s left)
+takes_back choice.Old s r d e left now gives is takes leaves may stands = λ before. sign_tells_not s r d e left now.synced is takes (subst (λ (image : List ℕ). StandsFor image left) leaves stands) before
+takes_back choice.New s r d e left now gives is takes leaves may stands =
+    let there : StandsFor now.gives left = subst (λ (image : List ℕ). StandsFor image left) leaves stands in
+    (λ before. sign_tells_not s r d e left now.gives is takes there before, λ behind. sign_tells_there s r d e left now.gives is takes there behind)
+takes_back choice.Torn s r d e left now gives is takes leaves may stands = λ all. sign_tells_not s r d e left gives is takes stands (all gives may)

@@ -101,13 +101,13 @@ stops_up true r t w is = ap (λ (q : Record). show_line show.Stopped (moving (on
 
 pub stop_restarts : (tells : Type 0) (d : Durable) (now : View) (r : Record) (there : Bool) (old cut new : World) → old.server ≡ None → InDoubt tells (start d) d now r
     → (tells → view_of cut ≡ left_in there r (with_durable d (view_of old))) → cut.piece.items ≡ [] → under new ≡ show_line show.Stopped (under cut)
-    → (tells → TakesBack old.choice d now there) → Finishes tells (Unit {0}) old.choice (view_of old).shown (λ fate. restart fate (serves None d (view_of old))) (under new)
+    → (tells → TakesBack old.choice d (start d).server.durable now there) → Finishes tells (Unit {0}) old.choice (view_of old).shown (λ fate. restart fate (serves None d (view_of old))) (under new)
 unfolding by_spent
 stop_restarts tells d now r there old cut new none h left fresh_piece shown back = (
   fate_of there,
   came_fate there,
   λ told. go (told_fate there tells told),
-  λ told. chosen_by old.choice d now there (view_of old).shown (view_of new).shown (lines told) (h.synced told) (back told),
+  λ told. chosen_by old.choice d (start d).server.durable now there (view_of old).shown (view_of new).shown (lines told) (h.synced told) (back told),
 )
   where
     t : Serving
@@ -171,7 +171,7 @@ done_restarts tells d w now x made mark m new is some none h shown =
 pub stopped_restarts : (tells : Type 0) (d : Durable) (old cut new : World) (now : View) (x : Came (Server × Served)) (mark : Mark) (there : Bool) → x ≡ came.Stopped mark → old.server ≡ None → CameUp tells d old now x
     → (tells → (r : Record) (c e : Durable) → mark.sign ≡ sign_of r → mark.records.items ≡ old.records.items ++ r ∷ [] → step r c ≡ Ok e → LeavesEither r c now → view_of cut ≡ left_in there r (with_durable c (view_of old)))
     → cut.piece.items ≡ [] → under new ≡ show_line show.Stopped (under cut)
-    → (tells → (r : Record) (c e : Durable) → mark.sign ≡ sign_of r → step r c ≡ Ok e → TakesBack old.choice c now there)
+    → (tells → (r : Record) (c e : Durable) → mark.sign ≡ sign_of r → step r c ≡ Ok e → TakesBack old.choice c e now there)
     → Finishes tells (HasStoppedIn x) old.choice (view_of old).shown (λ fate. restart fate (serves None d (view_of old))) (under new)
 stopped_restarts tells d old cut new now x mark there is none h left fresh_piece shown back =
     let up : CameUp tells d old now (came.Stopped mark) = subst (λ (y : Came (Server × Served)). CameUp tells d old now y) is h in

@@ -35,5 +35,6 @@ returns-in-Ok-clause-old g c = λ told r d e is takes.
     let view = g.D.Disk.view in
     let left = view_of c.in-Ok.store in
     let tells : c.is_in-is_there.result ≡ is_there c.args.sign left = c.is_in-is_there.ensures ∙ ap (λ (x : Durable). is_there c.args.sign x) c.view.ensures.value in
-    subst (λ (b : Bool). TakesBack c.args.choice d (view c.args.disk.now) b) (sym tells)
-    (takes_back c.args.choice c.args.sign r d e left (view c.args.disk.now) (view c.power_cut.new.self).gives is takes (c.power_cut.ensures.leaves told c.in-Done.is) (c.in-Ok.ensures.stands told))
+    subst (λ (b : Bool). TakesBack c.args.choice d e (view c.args.disk.now) b) (sym tells)
+    (takes_back c.args.choice c.args.sign r d e left (view c.args.disk.now) (view c.power_cut.new.self).gives is takes (c.power_cut.ensures.leaves told c.in-Done.is)
+    ((c.power_cut.ensures.cut told).crash (view c.power_cut.new.self).gives (g.met.D.Disk.given told c.power_cut.new.self)) (c.in-Ok.ensures.stands told))
