@@ -26,7 +26,7 @@ use Rattle.ec_server.specs.Servers.{standing}
 use Rattle.ec_server.specs.declared.server.Server.{Server}
 use Rattle.ec_store.specs.Store.{IsHeld, view_of as state_of}
 use Rattle.ec_marking.specs.KeptRuns.{LeavesEither}
-use Rattle.ec_world.specs.Cutting.{TakesBack}
+use Rattle.ec_world.specs.Cutting.{LeavesBy}
 use Rattle.ec_clerk.specs.OfRunning.Faults.{of_step}
 use Rattle.ec_marking.specs.Keeping.{IsDone, InDoubt, LeavesSome, HasStoppedIn, IsStop, RunsIn}
 use Rattle.ec_marking.specs.Held.{held_stands}
@@ -107,10 +107,10 @@ came_fate false = tt
 came_fate true = tt
 
 -- the choice of the world allows it
-pub chosen_by : (ch : Choice) (d e : Durable) (now : View) (there : Bool) (before after : List Shown) → after ≡ before ++ show.Stopped ∷ [] → StandsFor now.synced d → TakesBack ch d e now there → IsShown (fate_of there) ch before after
+pub chosen_by : (ch : Choice) (d e : Durable) (now : View) (there : Bool) (before after : List Shown) → after ≡ before ++ show.Stopped ∷ [] → StandsFor now.synced d → LeavesBy ch d e now there → IsShown (fate_of there) ch before after
 unfolding fate_of
 chosen_by choice.Old d e now false before after is synced back = is
-chosen_by choice.Old d e now true before after is synced back = absurd (apart (back synced))
+chosen_by choice.Old d e now true before after is synced back = absurd (apart (back.taken_back synced))
   where
     apart : true ≡ false → ⊥
     apart is_so = cc
@@ -124,7 +124,7 @@ stop_line false r w = refl
 stop_line true r w = refl
 
 pub stop_finishes : (tells : Type 0) (done : Serving) (d : Durable) (s : Option State) (now : View) (r : Record) (there : Bool) (old new : World) → InDoubt tells done d now r
-    → (tells → show_line show.Stopped (moving (stopped_in there r (with_durable d (view_of old)))) ≡ under new) → (tells → TakesBack old.choice d done.server.durable now there)
+    → (tells → show_line show.Stopped (moving (stopped_in there r (with_durable d (view_of old)))) ≡ under new) → (tells → LeavesBy old.choice d done.server.durable now there)
     → Finishes tells (Unit {0}) old.choice (view_of old).shown (λ fate. served fate done (serves s d (view_of old))) (under new)
 stop_finishes tells done d s now r there old new h shows back = (
   fate_of there,
@@ -210,7 +210,7 @@ done_left tells done d s w now x served' mark image is h told left =
     some_left done d (served runs done (serves s d (view_of w))) image (behind done (serves s d (view_of w))) (done_leaves tells done d w now served' mark (subst (CameTo tells done d w now) is h) told image left)
 
 pub stopped_finishes : (tells : Type 0) (done : Serving) (d : Durable) (s : Option State) (w new : World) (now : View) (x : Came Served) (mark : Mark) → x ≡ came.Stopped mark → CameTo tells done d w now x
-    → ((r : Record) (c e : Durable) → IsMark mark r c w.records.items → step r c ≡ Ok e → (tells → LeavesEither r c now) → (there : Bool) × (tells → show_line show.Stopped (moving (stopped_in there r (with_durable c (view_of w)))) ≡ under new) × (tells → TakesBack w.choice c e now there))
+    → ((r : Record) (c e : Durable) → IsMark mark r c w.records.items → step r c ≡ Ok e → (tells → LeavesEither r c now) → (there : Bool) × (tells → show_line show.Stopped (moving (stopped_in there r (with_durable c (view_of w)))) ≡ under new) × (tells → LeavesBy w.choice c e now there))
     → Finishes tells (HasStoppedIn x) w.choice (view_of w).shown (λ fate. served fate done (serves s d (view_of w))) (under new)
 stopped_finishes tells done d s w new now x mark is h shows =
     let came_to : CameTo tells done d w now (came.Stopped mark) = subst (CameTo tells done d w now) is h in

@@ -5,7 +5,6 @@ use Rattle.ec_disk.specs.Choices.{cut}
 use Rattle.ec_disk.specs.Disk.{View}
 use Rattle.ec_disk.specs.Effects.{Cut, LeavesOnly}
 use Rattle.ec_disk.specs.declared.disk.Choice.{Choice}
-use Rattle.ec_disk.specs.declared.disk.Choice.TheVariants as choice
 use Rattle.ec_durable.specs.Durable.{step}
 use Rattle.ec_durable.specs.declared.record.Record.{Record}
 use Rattle.ec_durable.specs.declared.record.RecordFault.{RecordFault}
@@ -16,7 +15,7 @@ use Rattle.ec_store.specs.Opening.{WasLeftOrStands}
 use Rattle.ec_store.specs.Store.{StandsForEither}
 use Rattle.ec_world.proofs.Telling.{signs_tell}
 use Rattle.ec_marking.specs.KeptRuns.{LeavesEither}
-use Rattle.ec_world.specs.Cutting.{TakesBack, left_of}
+use Rattle.ec_world.specs.Cutting.{LeavesBy, left_of}
 use Rattle.ec_marking.specs.Signs.{sign_of, is_there}
 use Rattle.ec_marking.specs.declared.signs.Sign.{Sign}
 
@@ -82,9 +81,11 @@ sign_tells_there s r d e left image is takes stands behind =
     ap (λ (t : Sign). is_there t left) is ∙ ap (λ (y : Durable). is_there (sign_of r) y) (one_state image left e stands behind) ∙ (signs_tell r d e takes).1
 
 -- what a power cut leaves of the record, by its choice
-pub takes_back : (ch : Choice) (s : Sign) (r : Record) (d e left : Durable) (now : View) (gives : List ℕ) → s ≡ sign_of r → step r d ≡ Ok e → gives ≡ cut ch now.gives now.synced → now.may_leave gives → StandsFor gives left → TakesBack ch d e now (is_there s left)
-takes_back choice.Old s r d e left now gives is takes leaves may stands = λ before. sign_tells_not s r d e left now.synced is takes (subst (λ (image : List ℕ). StandsFor image left) leaves stands) before
-takes_back choice.New s r d e left now gives is takes leaves may stands =
-    let there : StandsFor now.gives left = subst (λ (image : List ℕ). StandsFor image left) leaves stands in
-    (λ before. sign_tells_not s r d e left now.gives is takes there before, λ behind. sign_tells_there s r d e left now.gives is takes there behind)
-takes_back choice.Torn s r d e left now gives is takes leaves may stands = λ all. sign_tells_not s r d e left gives is takes stands (all gives may)
+pub leaves_by : (ch : Choice) (s : Sign) (r : Record) (d e left : Durable) (now : View) (gives : List ℕ) → s ≡ sign_of r → step r d ≡ Ok e → gives ≡ cut ch now.gives now.synced → now.may_leave gives → StandsFor gives left → LeavesBy ch d e now (is_there s left)
+leaves_by ch s r d e left now gives is takes leaves may stands =
+    let there : StandsFor (cut ch now.gives now.synced) left = subst (λ (image : List ℕ). StandsFor image left) leaves stands in
+    record {
+      left = subst now.may_leave leaves may;
+      taken_back = λ before. sign_tells_not s r d e left (cut ch now.gives now.synced) is takes there before;
+      kept = λ behind. sign_tells_there s r d e left (cut ch now.gives now.synced) is takes there behind;
+    }

@@ -24,7 +24,7 @@ use Rattle.ec_wire.specs.declared.msg.Msg.{Msg}
 use Rattle.ec_world.proofs.Finish.{chosen_by, fate_of, told_fate, came_fate, sends_keep, IsTaken, left_behind, some_left, either_behind, done_leaves}
 use Rattle.ec_world.proofs.Fresh.{fresh}
 use Rattle.ec_marking.specs.KeptRuns.{LeavesEither}
-use Rattle.ec_world.specs.Cutting.{TakesBack}
+use Rattle.ec_world.specs.Cutting.{LeavesBy}
 use Rattle.ec_marking.specs.Keeping.{IsDone, InDoubt, LeavesSome, HasStoppedIn}
 use Rattle.ec_marking.specs.Marks.{IsMark, MarkOf}
 use Rattle.ec_world.specs.Serving.{serves, with_durable, left_in, CameUp, Finishes}
@@ -101,7 +101,7 @@ stops_up true r t w is = ap (λ (q : Record). show_line show.Stopped (moving (on
 
 pub stop_restarts : (tells : Type 0) (d : Durable) (now : View) (r : Record) (there : Bool) (old cut new : World) → old.server ≡ None → InDoubt tells (start d) d now r
     → (tells → view_of cut ≡ left_in there r (with_durable d (view_of old))) → cut.piece.items ≡ [] → under new ≡ show_line show.Stopped (under cut)
-    → (tells → TakesBack old.choice d (start d).server.durable now there) → Finishes tells (Unit {0}) old.choice (view_of old).shown (λ fate. restart fate (serves None d (view_of old))) (under new)
+    → (tells → LeavesBy old.choice d (start d).server.durable now there) → Finishes tells (Unit {0}) old.choice (view_of old).shown (λ fate. restart fate (serves None d (view_of old))) (under new)
 unfolding by_spent
 stop_restarts tells d now r there old cut new none h left fresh_piece shown back = (
   fate_of there,
@@ -171,7 +171,7 @@ done_restarts tells d w now x made mark m new is some none h shown =
 pub stopped_restarts : (tells : Type 0) (d : Durable) (old cut new : World) (now : View) (x : Came (Server × Served)) (mark : Mark) (there : Bool) → x ≡ came.Stopped mark → old.server ≡ None → CameUp tells d old now x
     → (tells → (r : Record) (c e : Durable) → mark.sign ≡ sign_of r → mark.records.items ≡ old.records.items ++ r ∷ [] → step r c ≡ Ok e → LeavesEither r c now → view_of cut ≡ left_in there r (with_durable c (view_of old)))
     → cut.piece.items ≡ [] → under new ≡ show_line show.Stopped (under cut)
-    → (tells → (r : Record) (c e : Durable) → mark.sign ≡ sign_of r → step r c ≡ Ok e → TakesBack old.choice c e now there)
+    → (tells → (r : Record) (c e : Durable) → mark.sign ≡ sign_of r → step r c ≡ Ok e → LeavesBy old.choice c e now there)
     → Finishes tells (HasStoppedIn x) old.choice (view_of old).shown (λ fate. restart fate (serves None d (view_of old))) (under new)
 stopped_restarts tells d old cut new now x mark there is none h left fresh_piece shown back =
     let up : CameUp tells d old now (came.Stopped mark) = subst (λ (y : Came (Server × Served)). CameUp tells d old now y) is h in

@@ -9,7 +9,7 @@ ghost use Rattle.ec_stands.specs.Stands.{StandsFor};
 ghost use Rattle.ec_store.specs.Store.{IsHeld, view_of};
 ghost use Rattle.ec_store.specs.declared.fault.StoreFault.TheVariants as store_fault;
 ghost use Rattle.ec_marking.specs.KeptRuns.{LeavesEither};
-ghost use Rattle.ec_world.specs.Cutting.{TakesBack, left_of};
+ghost use Rattle.ec_world.specs.Cutting.{LeavesBy, left_of};
 ghost use Rattle.ec_marking.specs.Signs.{sign_of};
 ghost use Rattle.ec_clerk.specs.declared.running.fault.StepFault.TheVariants as fault;
 
@@ -28,7 +28,7 @@ pub(crate) fn cut_power<D: CrashDisk>(
 ) -> Result<(Store, bool), StepFault>
     // Of a record that the state takes, what is left is the state before it or the stepped one, and its sign tells which.
     ensures found { IfOk result (λ left. D.tells → (r : Change) (d e : Durable) → sign ≡ sign_of r → step r d ≡ Ok e → LeavesEither r d (D.view disk.old) → view_of left.0 ≡ left_of left.1 d e) }
-    ensures old { IfOk result (λ left. D.tells → (r : Change) (d e : Durable) → sign ≡ sign_of r → step r d ≡ Ok e → TakesBack choice d e (D.view disk.old) left.1) }
+    ensures chosen { IfOk result (λ left. D.tells → (r : Change) (d e : Durable) → sign ≡ sign_of r → step r d ≡ Ok e → LeavesBy choice d e (D.view disk.old) left.1) }
     ensures held { IfOk result (λ left. D.tells → IsHeld (D.view disk.new) left.0) }
     // At a fault too nothing else is left.
     ensures left { D.tells → (r : Change) (d : Durable) → LeavesEither r d (D.view disk.old) → LeavesEither r d (D.view disk.new) }

@@ -8,7 +8,7 @@ ghost use Rattle.ec_history.specs.declared.shown.Shown.TheVariants as show;
 ghost use Rattle.ec_protocol.specs.World as machine;
 ghost use Rattle.ec_store.specs.Store.{IsHeld};
 ghost use Rattle.ec_marking.specs.KeptRuns.{LeavesEither};
-ghost use Rattle.ec_world.specs.Cutting.{TakesBack};
+ghost use Rattle.ec_world.specs.Cutting.{LeavesBy};
 ghost use Rattle.ec_marking.specs.Marks.{IsMark};
 ghost use Rattle.ec_world.specs.Serving.{Breaks, left_in, stopped_in, with_durable};
 ghost use Rattle.ec_marking.specs.Signs.{sign_of};
@@ -37,7 +37,7 @@ impl World {
     ) -> Result<bool, StepFault>
         requires { self.old.server ≡ None }
         ensures ok { IfOk result (λ there. D.tells → (r : Change) (d e : Durable) → sign ≡ sign_of r → records.items ≡ self.old.records.items ++ r ∷ [] → step r d ≡ Ok e → LeavesEither r d (D.view disk.old) → view_of self.new ≡ left_in there r (with_durable d (view_of self.old))) }
-        ensures old { IfOk result (λ there. D.tells → (r : Change) (d e : Durable) → sign ≡ sign_of r → step r d ≡ Ok e → TakesBack self.old.choice d e (D.view disk.old) there) }
+        ensures chosen { IfOk result (λ there. D.tells → (r : Change) (d e : Durable) → sign ≡ sign_of r → step r d ≡ Ok e → LeavesBy self.old.choice d e (D.view disk.old) there) }
         ensures server { self.new.server ≡ None }
         ensures piece { self.new.piece ≡ self.old.piece }
         ensures held { OnOk result (D.tells → IsHeld (D.view disk.new) self.new.store) }
@@ -62,7 +62,7 @@ impl World {
         mark: Mark,
     ) -> Result<(), StepFault>
         requires { self.old.piece.items ≡ [] }
-        ensures ok { OnOk result ((r : Change) (d e : Durable) → IsMark mark r d self.old.records.items → step r d ≡ Ok e → (D.tells → LeavesEither r d (D.view disk.old)) → (there : Bool) × (D.tells → machine.show_line show.Stopped (machine.moving (stopped_in there r (with_durable d (view_of self.old)))) ≡ under self.new) × (D.tells → TakesBack self.old.choice d e (D.view disk.old) there)) }
+        ensures ok { OnOk result ((r : Change) (d e : Durable) → IsMark mark r d self.old.records.items → step r d ≡ Ok e → (D.tells → LeavesEither r d (D.view disk.old)) → (there : Bool) × (D.tells → machine.show_line show.Stopped (machine.moving (stopped_in there r (with_durable d (view_of self.old)))) ≡ under self.new) × (D.tells → LeavesBy self.old.choice d e (D.view disk.old) there)) }
         ensures in_step { OnOk result (IsInStep D.tells (D.view disk.new) self.new) }
         ensures left { D.tells → (r : Change) (d : Durable) → LeavesEither r d (D.view disk.old) → LeavesEither r d (D.view disk.new) }
         ensures err { IfErr result Breaks }

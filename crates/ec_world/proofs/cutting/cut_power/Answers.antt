@@ -1,9 +1,9 @@
 use Rattle.std.proofs.Common.{◌≡◌, ◌∙◌, sym, ap, subst, Bool}
 use Rattle.ec_durable.specs.declared.state.Durable.{Durable}
 use Rattle.ec_store.specs.Store.{view_of}
-use Rattle.ec_world.specs.Cutting.{TakesBack, left_of}
+use Rattle.ec_world.specs.Cutting.{LeavesBy, left_of}
 use Rattle.ec_marking.specs.Signs.{is_there}
-use Rattle.ec_world.proofs.Left.{cut_leaves, sign_tells, takes_back}
+use Rattle.ec_world.proofs.Left.{cut_leaves, sign_tells, leaves_by}
 use Rattle.ec_world.proofs.cutting.cut_power.Goals as goal
 
 pub returns-in-Ok-clause-found : goal.returns-in-Ok-clause-found
@@ -30,11 +30,11 @@ returns-in-Ok-clause-left g c = λ told r d either.
     let view = g.D.Disk.view in
     c.open_left.ensures.left told r d (cut_leaves r d (view c.args.disk.now) (view c.power_cut.new.self) (c.power_cut.ensures.cut told) either)
 
-pub returns-in-Ok-clause-old : goal.returns-in-Ok-clause-old
-returns-in-Ok-clause-old g c = λ told r d e is takes.
+pub returns-in-Ok-clause-chosen : goal.returns-in-Ok-clause-chosen
+returns-in-Ok-clause-chosen g c = λ told r d e is takes.
     let view = g.D.Disk.view in
     let left = view_of c.in-Ok.store in
     let tells : c.is_in-is_there.result ≡ is_there c.args.sign left = c.is_in-is_there.ensures ∙ ap (λ (x : Durable). is_there c.args.sign x) c.view.ensures.value in
-    subst (λ (b : Bool). TakesBack c.args.choice d e (view c.args.disk.now) b) (sym tells)
-    (takes_back c.args.choice c.args.sign r d e left (view c.args.disk.now) (view c.power_cut.new.self).gives is takes (c.power_cut.ensures.leaves told c.in-Done.is)
+    subst (λ (b : Bool). LeavesBy c.args.choice d e (view c.args.disk.now) b) (sym tells)
+    (leaves_by c.args.choice c.args.sign r d e left (view c.args.disk.now) (view c.power_cut.new.self).gives is takes (c.power_cut.ensures.leaves told c.in-Done.is)
     ((c.power_cut.ensures.cut told).crash (view c.power_cut.new.self).gives (g.met.D.Disk.given told c.power_cut.new.self)) (c.in-Ok.ensures.stands told))

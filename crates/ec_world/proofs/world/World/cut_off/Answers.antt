@@ -16,8 +16,8 @@ returns-else-is_there-clause-ok g c = λ told r d e sign more takes either.
     cut_off_is there c.args.self.now c.in_ok-store.store c.args.self.now.records r d e c.requires (ap (λ (b : Bool). records_of b r before) (sym c.if-is_there.false)) takes
     (c.in_ok-store.ensures.found told r d e sign takes either)
 
-pub returns-then-is_there-clause-old : goal.returns-then-is_there-clause-old
-returns-then-is_there-clause-old g c = c.in_ok-store.ensures.old
+pub returns-then-is_there-clause-chosen : goal.returns-then-is_there-clause-chosen
+returns-then-is_there-clause-chosen g c = c.in_ok-store.ensures.chosen
 
-pub returns-else-is_there-clause-old : goal.returns-else-is_there-clause-old
-returns-else-is_there-clause-old g c = c.in_ok-store.ensures.old
+pub returns-else-is_there-clause-chosen : goal.returns-else-is_there-clause-chosen
+returns-else-is_there-clause-chosen g c = c.in_ok-store.ensures.chosen

@@ -11,7 +11,7 @@ returns-in_ok-come_up-in-Done-clause-ok g c = λ d came.
 pub returns-in_ok-show_line-in-Stopped-clause-ok : goal.returns-in_ok-show_line-in-Stopped-clause-ok
 returns-in_ok-show_line-in-Stopped-clause-ok g c = λ d came.
     stopped_restarts g.D.Disk.tells d c.args.self.now c.cut_off.new.self c.show_line.new.self (g.D.Disk.view c.args.disk.now) c.args.came c.in-Stopped.mark c.in_ok-cut_off-in-Stopped.field-0 c.in-Stopped.is c.requires.none came c.in_ok-cut_off-in-Stopped.ensures.ok
-    (ap (λ p. p.items) c.in_ok-cut_off-in-Stopped.ensures.piece ∙ c.requires.piece) c.in_ok-show_line-in-Stopped.ensures.ok c.in_ok-cut_off-in-Stopped.ensures.old
+    (ap (λ p. p.items) c.in_ok-cut_off-in-Stopped.ensures.piece ∙ c.requires.piece) c.in_ok-show_line-in-Stopped.ensures.ok c.in_ok-cut_off-in-Stopped.ensures.chosen
 
 pub returns-in_err-come_up-in-Done-clause-left : goal.returns-in_err-come_up-in-Done-clause-left
 returns-in_err-come_up-in-Done-clause-left g c =

@@ -18,7 +18,7 @@ returns-clause-ok g c = λ r d e is takes either.
       there,
       λ told. stop_shows there r d shows c.args.self.now cut mid c.show_line.new.self is.noted_is (c.in_ok-cut_off.ensures.ok told r d e is.sign_is is.records_are takes (either told)) (ap view_of mid_is)
           (ap (λ (w : World). w.piece.items) mid_is ∙ ap (λ p. p.items) c.in_ok-cut_off.ensures.piece ∙ c.requires) c.in_ok-show_line.ensures.ok,
-      λ told. c.in_ok-cut_off.ensures.old told r d e is.sign_is takes,
+      λ told. c.in_ok-cut_off.ensures.chosen told r d e is.sign_is takes,
     )
 
 pub returns-clause-in_step : goal.returns-clause-in_step
