@@ -21,12 +21,12 @@ use Rattle.ec_server.specs.Steps.{FaultLeaves}
 use Rattle.ec_server.specs.declared.server.Server.{Server}
 use Rattle.ec_server.specs.declared.fault.ServerFault.{ServerFault}
 use Rattle.ec_server.specs.declared.fault.ServerFault.TheVariants as server
-use Rattle.ec_store.specs.Store.{IsHeld, StandsForEither, view_of}
+use Rattle.ec_store.specs.Store.{IsHeld, StandsForEither, StopsHalfway, view_of}
 use Rattle.ec_store.specs.declared.store.Store.{Store}
-use Rattle.ec_marking.specs.KeptRuns.{LeavesEither, HasRun}
-use Rattle.ec_marking.specs.Keeping.{IsDone, InDoubt, LeavesSome, CameOf, Unchanged, HasMark, Turns, IsStop, RunsIn}
+use Rattle.ec_marking.specs.KeptRuns.{LeavesEither, HasRun, Halfway, StopsAt}
+use Rattle.ec_marking.specs.Keeping.{IsDone, InDoubt, LeavesSome, CameOf, Unchanged, HasMark, Turns, IsStop, RunsIn, StopsSo}
 use Rattle.ec_marking.proofs.Runs.{run_same}
-use Rattle.ec_marking.specs.OfKeeper.Keeps.{KeepsRecord, LeavesRecord}
+use Rattle.ec_marking.specs.OfKeeper.Keeps.{Kept, Broke, Stops}
 use Rattle.ec_marking.specs.declared.keeper.keeper.DiskKeeper.{DiskKeeper}
 use Rattle.ec_codes.specs.Formats.{Format}
 use Rattle.ec_durable.specs.Codes.{record_code}
@@ -48,11 +48,15 @@ pub record Committed (tells : Type 0) (old new : Store) (now : View) (mark : Opt
   pub counted : Counted a b ⊥ ⊥
   pub ran : HasRun (view_of old) (view_of new) a b
 
+-- What a stop in the turn that was due left, by the room for the record.
+abbrev pub StopsFor : Option ℕ → Store → View → Record → Type 0
+StopsFor armed old now r = (turn : ℕ) → armed ≡ Some turn → StopsHalfway (need_of (record_code.spell r)) (free_now old.selected) turn now r (view_of old)
+
 -- Behind one that may be there: where the disk stopped, it's marked.
 pub record Doubted (tells : Type 0) (old : Store) (now : View) (mark : Option Mark) (before : List Record) (a b : Counts) (stops : ℕ) (r : Record) : Type 0 where
   pub leaves : tells → LeavesEither r (view_of old) now
   pub synced : tells → StandsFor now.synced (view_of old)
-  pub marked : ((stops ≡ 0) × Counted a b ⊥ ⊥) ⊎ (Marked mark r (view_of old) before × Counted a b ⊥ (Unit {0}))
+  pub marked : ((stops ≡ 0) × Counted a b ⊥ ⊥) ⊎ (Marked mark r (view_of old) before × Counted a b ⊥ (Unit {0}) × (tells → StopsFor a.armed old now r))
 
 -- Behind none.
 pub record Same (tells : Type 0) (old new : Store) (now : View) (mark : Option Mark) (a b : Counts) : Type 0 where
@@ -146,7 +150,7 @@ undone T K did broke k l tells old new now mark before a b stops done m (Err ser
     (hurts.1.0, in_doubt tells done (view_of old) now hurts.1.0 hurts.1.1 hurts.0 steps s.leaves s.synced)
 undone T K did broke k l tells old new now mark before a b stops done m (Err server.DiskStopped) hurts spends steps rose =
     let s = m.doubted hurts.1.0 hurts.1.2 in
-    let marked : Marked mark hurts.1.0 (view_of old) before × Counted a b ⊥ (Unit {0}) = was_marked stops (rose refl) s.marked in
+    let marked : Marked mark hurts.1.0 (view_of old) before × Counted a b ⊥ (Unit {0}) × (tells → StopsFor a.armed old now hurts.1.0) = was_marked stops (rose refl) s.marked in
     (hurts.1.0, in_doubt tells done (view_of old) now hurts.1.0 hurts.1.1 hurts.0 steps s.leaves s.synced, marked.0)
 undone T K did broke k l tells old new now mark before a b stops done m (Err server.NoMemory) hurts spends steps rose =
     let still : l ≡ k → tells → LeavesSome done (view_of old) now = λ is. let s = m.same is in held_some tells done (view_of old) new now s.held (ap view_of s.store) in
@@ -235,21 +239,54 @@ came_ran T d e a b None (Err server.DiskStopped) to is h = absurd is
 came_ran T d e a b (Some mark) (Err server.DiskStopped) to is h = subst (λ (t : Result (Came T) Counter). IfOk t (λ came. RunsIn came d e a b)) (sym is) tt
 came_ran T d e a b mark (Err server.NoMemory) to is h = subst (λ (t : Result (Came T) Counter). IfOk t (λ came. RunsIn came d e a b)) (sym is) tt
 
-not_stopped : (a b : Counts) (A B C : Type 0) → (A × Counted a b ⊥ ⊥) ⊎ (B × Counted a b ⊥ C) → Counted a b ⊥ ⊥
-not_stopped a b A B C h = ⊎_elim (λ x. x.1) (λ x. counted_less a b ⊥ C x.1) h
+-- the turns of a commit, by the room for its record
+turns_are : (need free turns : ℕ) → (need ≤ free → turns ≡ 4) → (free < need → 9 ≤ turns) → (turns ≡ 4) ⊎ (9 ≤ turns)
+turns_are need free turns room none = ⊎_elim (λ h. inl (room h.1)) (λ h. inr (none h.1)) (leb_tells need free)
+
+-- What the turn that was due tells of a stop.
+
+halfway : (turn : ℕ) (s : Store) (now : View) (r : Record) (e : Durable) → step r (view_of s) ≡ Ok e → StopsHalfway (need_of (record_code.spell r)) (free_now s.selected) turn now r (view_of s) → Halfway turn (view_of s) e now
+halfway turn s now r e steps h = record { most = h.most; usual = turns_are _ _ h.most h.room h.no_room; within = h.within; early = h.halves.early; late = λ last. h.halves.late last e steps }
+
+-- a fault that stopped
+abbrev pub StopsIn : ServerFault → Type 0 → Option ℕ → Durable → Durable → View → Type 0
+StopsIn server.DiskStopped tells armed before stepped now = tells → StopsAt armed before stepped now
+StopsIn _ tells armed before stepped now = Unit {0}
+
+pub err_stops : (T : Type 0) (K : Type 0) (did broke : K → Record → K → Type 0) (k l : K) (tells : Type 0) (old new : Store) (now : View) (mark : Option Mark) (before : List Record) (a b : Counts) (stops : ℕ) (done : Serving)
+    → Means K did broke k l tells old new now mark before a b stops → (answer : Result T ServerFault) → IfErr answer (λ f. Hurts SpendsNothing did broke f done k l) → IfErr answer (λ f. Steps f done (view_of old) k l)
+    → (answer ≡ Err server.DiskStopped → Rose 0 stops) → IfErr answer (λ f. StopsIn f tells a.armed (view_of old) done.server.durable now)
+err_stops T K did broke k l tells old new now mark before a b stops done m (Ok x) hurts steps rose = tt
+err_stops T K did broke k l tells old new now mark before a b stops done m (Err (server.Spent n)) hurts steps rose = tt
+err_stops T K did broke k l tells old new now mark before a b stops done m (Err server.DiskFailed) hurts steps rose = tt
+err_stops T K did broke k l tells old new now mark before a b stops done m (Err server.DiskStopped) hurts steps rose = λ told turn armed.
+    let marked : Marked mark hurts.1.0 (view_of old) before × Counted a b ⊥ (Unit {0}) × (tells → StopsFor a.armed old now hurts.1.0) = was_marked stops (rose refl) (m.doubted hurts.1.0 hurts.1.2).marked in
+    halfway turn old now hurts.1.0 done.server.durable (subst (λ (o : Option Record). Records o (view_of old) done.server.durable) hurts.1.1 steps) (marked.2 told turn armed)
+err_stops T K did broke k l tells old new now mark before a b stops done m (Err server.NoMemory) hurts steps rose = tt
+
+pub came_stops : (T : Type 0) (tells : Type 0) (armed : Option ℕ) (d e : Durable) (now : View) (mark : Option Mark) (answer : Result T ServerFault) (to : Result (Came T) Counter) → Turns answer mark to → IfErr answer (λ f. StopsIn f tells armed d e now) → IfOk to (λ came. StopsSo came tells armed d e now)
+came_stops T tells armed d e now mark (Ok x) to is h = subst (λ (t : Result (Came T) Counter). IfOk t (λ came. StopsSo came tells armed d e now)) (sym is) tt
+came_stops T tells armed d e now mark (Err (server.Spent n)) to is h = subst (λ (t : Result (Came T) Counter). IfOk t (λ came. StopsSo came tells armed d e now)) (sym is) tt
+came_stops T tells armed d e now mark (Err server.DiskFailed) to is h = subst (λ (t : Result (Came T) Counter). IfOk t (λ came. StopsSo came tells armed d e now)) (sym is) tt
+came_stops T tells armed d e now None (Err server.DiskStopped) to is h = absurd is
+came_stops T tells armed d e now (Some mark) (Err server.DiskStopped) to is h = subst (λ (t : Result (Came T) Counter). IfOk t (λ came. StopsSo came tells armed d e now)) (sym is) h
+came_stops T tells armed d e now mark (Err server.NoMemory) to is h = subst (λ (t : Result (Came T) Counter). IfOk t (λ came. StopsSo came tells armed d e now)) (sym is) tt
+
+not_stopped : (a b : Counts) (A B C E : Type 0) → (A × Counted a b ⊥ ⊥) ⊎ (B × Counted a b ⊥ C × E) → Counted a b ⊥ ⊥
+not_stopped a b A B C E h = ⊎_elim (λ x. x.1) (λ x. counted_less a b ⊥ C x.1) h
 
 pub err_counted : (T : Type 0) (K : Type 0) (did broke : K → Record → K → Type 0) (k l : K) (tells : Type 0) (old new : Store) (now : View) (mark : Option Mark) (before : List Record) (a b : Counts) (stops : ℕ) (done : Serving)
     → Means K did broke k l tells old new now mark before a b stops → (answer : Result T ServerFault) → IfErr answer (λ f. Hurts SpendsNothing did broke f done k l)
     → (answer ≡ Err server.DiskStopped → Rose 0 stops) → IfErr answer (λ f. CountedIn f a b)
 err_counted T K did broke k l tells old new now mark before a b stops done m (Ok x) hurts rose = tt
 err_counted T K did broke k l tells old new now mark before a b stops done m (Err (server.Spent n)) hurts rose = (m.same hurts).counted
-err_counted T K did broke k l tells old new now mark before a b stops done m (Err server.DiskFailed) hurts rose = not_stopped a b _ _ _ (m.doubted hurts.1.0 hurts.1.2).marked
+err_counted T K did broke k l tells old new now mark before a b stops done m (Err server.DiskFailed) hurts rose = not_stopped a b _ _ _ _ (m.doubted hurts.1.0 hurts.1.2).marked
 err_counted T K did broke k l tells old new now mark before a b stops done m (Err server.DiskStopped) hurts rose =
-    let marked : Marked mark hurts.1.0 (view_of old) before × Counted a b ⊥ (Unit {0}) = was_marked stops (rose refl) (m.doubted hurts.1.0 hurts.1.2).marked in
+    let marked : Marked mark hurts.1.0 (view_of old) before × Counted a b ⊥ (Unit {0}) × (tells → StopsFor a.armed old now hurts.1.0) = was_marked stops (rose refl) (m.doubted hurts.1.0 hurts.1.2).marked in
     marked.1
 err_counted T K did broke k l tells old new now mark before a b stops done m (Err server.NoMemory) hurts rose =
     ⊎_elim (λ is. (m.same is).counted)
-    (λ h. ⊎_elim (λ is. (m.committed h.1.0 is).counted) (λ is. not_stopped a b _ _ _ (m.doubted h.1.0 is).marked) h.1.2)
+    (λ h. ⊎_elim (λ is. (m.committed h.1.0 is).counted) (λ is. not_stopped a b _ _ _ _ (m.doubted h.1.0 is).marked) h.1.2)
     hurts
 
 abbrev with_stops : Counts → ℕ → Counts
@@ -294,26 +331,16 @@ counts_are T a b n mark (Err server.NoMemory) to is m c h = subst (Counting T a 
 
 -- The keeper over a store and its disk.
 
-abbrev pub disk_did : {D : Type 0} → Type 0 → (D → View) → (D → Counts) → Marking (DiskKeeper D) → Record → Marking (DiskKeeper D) → Type 0
+abbrev pub disk_did : {D : Type 0} → Type 0 → (D → View) → (D → Counts) → Marking D → Record → Marking D → Type 0
 disk_did tells view counts k r l =
-    ((l.keeper.store.ghost_name ≡ k.keeper.store.ghost_name) × (l.keeper.disk.ghost_name ≡ k.keeper.disk.ghost_name)
-    × (step r (view_of k.keeper.store.now) ≡ Ok (view_of l.keeper.store.now))
-    × (tells → IsHeld (view k.keeper.disk.now) k.keeper.store.now → KeepsRecord r k.keeper.store.now l.keeper.store.now (view k.keeper.disk.now) (view l.keeper.disk.now))
-    × (need_of (record_code.spell r) ≤ free_now k.keeper.store.now.selected → Called 4 (counts k.keeper.disk.now) (counts l.keeper.disk.now))
-    × ((turns : ℕ) × Turned turns (counts k.keeper.disk.now).armed (counts l.keeper.disk.now).armed (Unit {0}) ⊥
-    × (need_of (record_code.spell r) ≤ free_now k.keeper.store.now.selected → turns ≡ 4)
-    × (free_now k.keeper.store.now.selected < need_of (record_code.spell r) → 9 ≤ turns)))
+    Kept tells view counts k.keeper r l.keeper
     × (l.marks.ghost_name ≡ k.marks.ghost_name)
     × HasMarked l.marks.now.mark r (view_of k.keeper.store.now) k.records.now.items (counts k.keeper.disk.now) (counts l.keeper.disk.now)
 
-abbrev pub disk_broke : {D : Type 0} → Type 0 → (D → View) → (D → Counts) → Marking (DiskKeeper D) → Record → Marking (DiskKeeper D) → Type 0
+abbrev pub disk_broke : {D : Type 0} → Type 0 → (D → View) → (D → Counts) → Marking D → Record → Marking D → Type 0
 disk_broke tells view counts k r l =
     (l.marks.ghost_name ≡ k.marks.ghost_name)
-    × MayHaveMarked (l.keeper ≡ k.keeper)
-    ((l.keeper.store.ghost_name ≡ k.keeper.store.ghost_name) × (l.keeper.disk.ghost_name ≡ k.keeper.disk.ghost_name)
-    × (tells → IsHeld (view k.keeper.disk.now) k.keeper.store.now → LeavesRecord r k.keeper.store.now (view k.keeper.disk.now) (view l.keeper.disk.now))
-    × ((turns : ℕ) × Turned turns (counts k.keeper.disk.now).armed (counts l.keeper.disk.now).armed ⊥ ⊥ × (need_of (record_code.spell r) ≤ free_now k.keeper.store.now.selected → turns ≤ 4))
-    × (tells → IsHeld (view k.keeper.disk.now) k.keeper.store.now → StandsFor (view l.keeper.disk.now).synced (view_of k.keeper.store.now)))
+    × MayHaveMarked (l.keeper ≡ k.keeper) (Broke tells view counts k.keeper r l.keeper) (Stops tells view counts k.keeper r l.keeper)
     k.marks.now.stopped.items l.marks.now.stopped.items l.marks.now.mark r (view_of k.keeper.store.now) k.records.now.items (counts k.keeper.disk.now) (counts l.keeper.disk.now)
 
 -- what a crash leaves now is among what it might have left since
@@ -326,35 +353,34 @@ either_now before now r d law h image left = h.each image (law image h.later lef
 held_either : (now : View) (s : Store) (r : Record) → IsHeld now s → LeavesEither r (view_of s) now
 held_either now s r h image left = inl (held_stands now s h image left)
 
-doubted_by : (tells : Type 0) (old : Store) (now : View) (mark : Option Mark) (before : List Record) (a b : Counts) (r : Record) (A B : Type 0) (stopped more : List Record) → stopped ≡ []
-    → (A → tells → LeavesEither r (view_of old) now × StandsFor now.synced (view_of old)) → (B → tells → LeavesEither r (view_of old) now × StandsFor now.synced (view_of old)) → MayHaveMarked A B stopped more mark r (view_of old) before a b → Doubted tells old now mark before a b (length more) r
-doubted_by tells old now mark before a b r A B stopped more none same broke (inl h) =
+doubted_by : (tells : Type 0) (old : Store) (now : View) (mark : Option Mark) (before : List Record) (a b : Counts) (r : Record) (A B S : Type 0) (stopped more : List Record) → stopped ≡ []
+    → (A → tells → LeavesEither r (view_of old) now × StandsFor now.synced (view_of old)) → (B → tells → LeavesEither r (view_of old) now × StandsFor now.synced (view_of old)) → (S → tells → StopsFor a.armed old now r)
+    → MayHaveMarked A B S stopped more mark r (view_of old) before a b → Doubted tells old now mark before a b (length more) r
+doubted_by tells old now mark before a b r A B S stopped more none same broke stops (inl h) =
     record { leaves = λ told. (⊎_elim same broke h.broke told).0; synced = λ told. (⊎_elim same broke h.broke told).1; marked = inl (h.stopped_are ∙ ap (λ (rs : List Record). length rs) none, h.counted) }
-doubted_by tells old now mark before a b r A B stopped more none same broke (inr h) = record { leaves = λ told. (broke h.broke told).0; synced = λ told. (broke h.broke told).1; marked = inr (h.marked, h.counted) }
-
--- the turns of a commit, by the room for its record
-turns_are : (need free turns : ℕ) → (need ≤ free → turns ≡ 4) → (free < need → 9 ≤ turns) → (turns ≡ 4) ⊎ (9 ≤ turns)
-turns_are need free turns room none = ⊎_elim (λ h. inl (room h.1)) (λ h. inr (none h.1)) (leb_tells need free)
+doubted_by tells old now mark before a b r A B S stopped more none same broke stops (inr h) =
+    record { leaves = λ told. (broke h.broke told).0; synced = λ told. (broke h.broke told).1; marked = inr (h.marked, h.counted, stops h.stops) }
 
 has_run : (before after : Durable) (a b : Counts) (r : Record) (need free turns : ℕ) → step r before ≡ Ok after → Turned turns a.armed b.armed (Unit {0}) ⊥ → (need ≤ free → turns ≡ 4) → (free < need → 9 ≤ turns) → HasRun before after a b
 has_run before after a b r need free turns steps h room none = record { turns = turns; takes = inr (r, steps, turns_are need free turns room none); next = h.next; none_due = h.goes tt }
 
-pub means : {D : Type 0} (tells : Type 0) (view : D → View) (counts : D → Counts) (k l : Marking (DiskKeeper D)) → (tells → NowCounts (view k.keeper.disk.now) (view l.keeper.disk.now))
+pub means : {D : Type 0} (tells : Type 0) (view : D → View) (counts : D → Counts) (k l : Marking D) → (tells → NowCounts (view k.keeper.disk.now) (view l.keeper.disk.now))
     → (tells → (view k.keeper.disk.now).may_leave (view k.keeper.disk.now).synced) → (tells → IsHeld (view k.keeper.disk.now) k.keeper.store.now) → k.marks.now.mark ≡ None → k.marks.now.stopped.items ≡ []
-    → Means (Marking (DiskKeeper D)) (disk_did tells view counts) (disk_broke tells view counts) k l tells k.keeper.store.now l.keeper.store.now (view l.keeper.disk.now) l.marks.now.mark k.records.now.items
+    → Means (Marking D) (disk_did tells view counts) (disk_broke tells view counts) k l tells k.keeper.store.now l.keeper.store.now (view l.keeper.disk.now) l.marks.now.mark k.records.now.items
     (counts k.keeper.disk.now) (counts l.keeper.disk.now) (length l.marks.now.stopped.items)
 means {D} tells view counts k l law given held none_marked none_stopped = record {
   committed = λ r h. record { steps = h.0.2; held = λ told. (h.0.3 told (held told)).held; marked = h.2.marked; counted = h.2.counted; ran = has_run (view_of k.keeper.store.now) (view_of l.keeper.store.now) (counts k.keeper.disk.now) (counts l.keeper.disk.now) r _ _ h.0.5.0 h.0.2 h.0.5.1 h.0.5.2 h.0.5.3 };
   doubted = λ r h.
-      doubted_by tells k.keeper.store.now (view l.keeper.disk.now) l.marks.now.mark k.records.now.items (counts k.keeper.disk.now) (counts l.keeper.disk.now) r _ _ k.marks.now.stopped.items l.marks.now.stopped.items none_stopped
+      doubted_by tells k.keeper.store.now (view l.keeper.disk.now) l.marks.now.mark k.records.now.items (counts k.keeper.disk.now) (counts l.keeper.disk.now) r _ _ _ k.marks.now.stopped.items l.marks.now.stopped.items none_stopped
       (λ same told.
       let held_now = held told in
       subst (λ (x : DiskKeeper D). LeavesEither r (view_of k.keeper.store.now) (view x.disk.now) × StandsFor (view x.disk.now).synced (view_of k.keeper.store.now)) (sym same)
       (held_either (view k.keeper.disk.now) k.keeper.store.now r held_now, held_stands (view k.keeper.disk.now) k.keeper.store.now held_now (view k.keeper.disk.now).synced (given told)))
       (λ b told. (either_now (view k.keeper.disk.now) (view l.keeper.disk.now) r (view_of k.keeper.store.now) (law told) (b.2 told (held told)), b.4 told (held told)))
+      (λ stops told. stops told (held told))
       h.1;
   same = λ e.
-      let to : Marking (DiskKeeper D) → Type 0 = λ x. Same tells k.keeper.store.now x.keeper.store.now (view x.keeper.disk.now) x.marks.now.mark (counts k.keeper.disk.now) (counts x.keeper.disk.now) in
+      let to : Marking D → Type 0 = λ x. Same tells k.keeper.store.now x.keeper.store.now (view x.keeper.disk.now) x.marks.now.mark (counts k.keeper.disk.now) (counts x.keeper.disk.now) in
       subst to (sym e) (record { store = refl; held = held; none = none_marked; counted = counted_same (counts k.keeper.disk.now); ran = run_same (view_of k.keeper.store.now) (view_of k.keeper.store.now) (counts k.keeper.disk.now) refl });
 }
 

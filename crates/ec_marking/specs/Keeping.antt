@@ -15,7 +15,7 @@ use Rattle.ec_server.specs.declared.fault.ServerFault.{ServerFault}
 use Rattle.ec_server.specs.declared.fault.ServerFault.TheVariants as server
 use Rattle.ec_store.specs.Store.{IsHeld, view_of}
 use Rattle.ec_store.specs.declared.store.Store.{Store}
-use Rattle.ec_marking.specs.KeptRuns.{LeavesEither, HasRun}
+use Rattle.ec_marking.specs.KeptRuns.{LeavesEither, HasRun, StopsAt}
 use Rattle.ec_marking.specs.Marks.{IsMark, MarkOf, RecordIsMarked}
 use Rattle.ec_marking.specs.declared.keeping.Came.{Came}
 use Rattle.ec_marking.specs.declared.keeping.Came.TheVariants.{Done, Stopped, DiskFailed, NoMemory}
@@ -81,6 +81,11 @@ IsStop (Err n) = ⊥
 abbrev pub RunsIn : {T : Type 0} → Came T → Durable → Durable → Counts → Counts → Type 0
 RunsIn (Done x mark) before after old new = HasRun before after old new
 RunsIn _ before after old new = Unit {0}
+
+-- A stop in its record is told by the turn of the disk that was due.
+abbrev pub StopsSo : {T : Type 0} → Came T → Type 0 → Option ℕ → Durable → Durable → View → Type 0
+StopsSo (Stopped mark) tells armed before stepped now = tells → StopsAt armed before stepped now
+StopsSo _ tells armed before stepped now = Unit {0}
 
 abbrev pub IfDone : {T : Type 0} → Came T → (T → Type 0) → Type 0
 IfDone (Done x mark) P = P x

@@ -14,8 +14,9 @@ pub record HasMarked (mark : Option Mark) (r : Record) (d : Durable) (before : L
   pub counted : Counted old new ⊥ ⊥
 
 -- The disk stopped in the record, which has its mark.
-pub record HasStopped (Broke : Type 0) (mark : Option Mark) (r : Record) (d : Durable) (before : List Record) (old new : Counts) : Type 0 where
+pub record HasStopped (Broke Stops : Type 0) (mark : Option Mark) (r : Record) (d : Durable) (before : List Record) (old new : Counts) : Type 0 where
   pub broke : Broke
+  pub stops : Stops
   pub marked : RecordIsMarked mark r d before
   pub counted : Counted old new ⊥ (Unit {0})
 
@@ -25,5 +26,5 @@ pub record IsUnmarked (Same Broke : Type 0) (stopped more : List Record) (old ne
   pub stopped_are : length more ≡ length stopped
   pub counted : Counted old new ⊥ ⊥
 
-abbrev pub MayHaveMarked : Type 0 → Type 0 → List Record → List Record → Option Mark → Record → Durable → List Record → Counts → Counts → Type 0
-MayHaveMarked Same Broke stopped more mark r d before old new = IsUnmarked Same Broke stopped more old new ⊎ HasStopped Broke mark r d before old new
+abbrev pub MayHaveMarked : Type 0 → Type 0 → Type 0 → List Record → List Record → Option Mark → Record → Durable → List Record → Counts → Counts → Type 0
+MayHaveMarked Same Broke Stops stopped more mark r d before old new = IsUnmarked Same Broke stopped more old new ⊎ HasStopped Broke Stops mark r d before old new

@@ -5,7 +5,7 @@ ghost use Rattle.ec_wire.specs.Messages.{is_sound};
 ghost use Rattle.ec_protocol.specs.Server as machine;
 ghost use Rattle.ec_server.specs.Servers.{standing, StandsOn};
 ghost use Rattle.ec_store.specs.Store.{IsHeld, view_of};
-ghost use Rattle.ec_marking.specs.Keeping.{IsDone, CameOf, Unchanged, Turns, HasMark, IsStop, RunsIn, IfDone, IsMarked};
+ghost use Rattle.ec_marking.specs.Keeping.{IsDone, CameOf, Unchanged, Turns, HasMark, IsStop, RunsIn, StopsSo, IfDone, IsMarked};
 ghost use Rattle.ec_marking.specs.declared.keeping.Came.TheVariants as came;
 
 use crate::keeper::DiskKeeper;
@@ -57,6 +57,7 @@ pub fn take<D: Disk>(
     ensures stands { StandsOn (view_of store.new) server.new }
     ensures counts { Counted (D.counts disk.old) (D.counts disk.new) (result ≡ Ok came.DiskFailed) (IsStop result) }
     ensures ran { IfOk result (λ came. RunsIn came (view_of store.old) (view_of store.new) (D.counts disk.old) (D.counts disk.new)) }
+    ensures stops { let done = machine.take letter.entry.from letter.entry.msg.now (standing (view_of store.old) server.old) in IfOk result (λ came. StopsSo came D.tells (D.counts disk.old).armed (view_of store.old) done.server.durable (D.view disk.new)) }
 {
     let mut marks = Marks {
         mark: None,
@@ -73,7 +74,7 @@ pub fn take<D: Disk>(
 
 // The same, by a keeper over the store and the disk that are lent.
 fn take_by<D: Disk>(
-    keeper: &mut Marking<'_, DiskKeeper<'_, D>>,
+    keeper: &mut Marking<'_, D>,
     server: &mut Server,
     from: ClerkId,
     msg: &Msg,
@@ -91,6 +92,7 @@ fn take_by<D: Disk>(
     ensures same { IfErr result (λ n. standing (view_of keeper.new.keeper.store.now) server.new ≡ standing (view_of keeper.old.keeper.store.now) server.old) }
     ensures counts { Counted (D.counts keeper.old.keeper.disk.now) (D.counts keeper.new.keeper.disk.now) (result ≡ Ok came.DiskFailed) (IsStop result) }
     ensures ran { IfOk result (λ came. RunsIn came (view_of keeper.old.keeper.store.now) (view_of keeper.new.keeper.store.now) (D.counts keeper.old.keeper.disk.now) (D.counts keeper.new.keeper.disk.now)) }
+    ensures stops { let done = machine.take from msg.now (standing (view_of keeper.old.keeper.store.now) server.old) in IfOk result (λ came. StopsSo came D.tells (D.counts keeper.old.keeper.disk.now).armed (view_of keeper.old.keeper.store.now) done.server.durable (D.view keeper.new.keeper.disk.now)) }
 {
     let answer = server.take(keeper, from, msg);
     turned(answer, keeper.marks.mark.take())
@@ -113,6 +115,7 @@ pub fn end<D: Disk>(
     ensures stands { StandsOn (view_of store.new) server.new }
     ensures counts { Counted (D.counts disk.old) (D.counts disk.new) (result ≡ Ok came.DiskFailed) (IsStop result) }
     ensures ran { IfOk result (λ came. RunsIn came (view_of store.old) (view_of store.new) (D.counts disk.old) (D.counts disk.new)) }
+    ensures stops { let done = machine.end clerk (standing (view_of store.old) server.old) in IfOk result (λ came. StopsSo came D.tells (D.counts disk.old).armed (view_of store.old) done.server.durable (D.view disk.new)) }
 {
     let mut marks = Marks {
         mark: None,
@@ -129,7 +132,7 @@ pub fn end<D: Disk>(
 
 // The same, by a keeper over the store and the disk that are lent.
 fn end_by<D: Disk>(
-    keeper: &mut Marking<'_, DiskKeeper<'_, D>>,
+    keeper: &mut Marking<'_, D>,
     server: &mut Server,
     clerk: ClerkId,
 ) -> Result<Came<Served>, Counter>
@@ -145,6 +148,7 @@ fn end_by<D: Disk>(
     ensures same { IfErr result (λ n. standing (view_of keeper.new.keeper.store.now) server.new ≡ standing (view_of keeper.old.keeper.store.now) server.old) }
     ensures counts { Counted (D.counts keeper.old.keeper.disk.now) (D.counts keeper.new.keeper.disk.now) (result ≡ Ok came.DiskFailed) (IsStop result) }
     ensures ran { IfOk result (λ came. RunsIn came (view_of keeper.old.keeper.store.now) (view_of keeper.new.keeper.store.now) (D.counts keeper.old.keeper.disk.now) (D.counts keeper.new.keeper.disk.now)) }
+    ensures stops { let done = machine.end clerk (standing (view_of keeper.old.keeper.store.now) server.old) in IfOk result (λ came. StopsSo came D.tells (D.counts keeper.old.keeper.disk.now).armed (view_of keeper.old.keeper.store.now) done.server.durable (D.view keeper.new.keeper.disk.now)) }
 {
     let answer = server.end(keeper, clerk);
     turned(answer, keeper.marks.mark.take())
@@ -164,6 +168,7 @@ pub fn start<D: Disk>(
     ensures stands { IfOk result (λ came. IfDone came (λ made. StandsOn (view_of store.new) made.0)) }
     ensures counts { Counted (D.counts disk.old) (D.counts disk.new) (result ≡ Ok came.DiskFailed) (IsStop result) }
     ensures ran { IfOk result (λ came. RunsIn came (view_of store.old) (view_of store.new) (D.counts disk.old) (D.counts disk.new)) }
+    ensures stops { let done = machine.start (view_of store.old) in IfOk result (λ came. StopsSo came D.tells (D.counts disk.old).armed (view_of store.old) done.server.durable (D.view disk.new)) }
 {
     let mut marks = Marks {
         mark: None,
@@ -181,7 +186,7 @@ pub fn start<D: Disk>(
 // The same, by a keeper over the store and the disk that are lent.
 fn start_by<D: Disk>(
     alloc: Global,
-    keeper: &mut Marking<'_, DiskKeeper<'_, D>>,
+    keeper: &mut Marking<'_, D>,
 ) -> Result<Came<(Server, Served)>, Counter>
     requires unmarked { keeper.old.marks.now.mark ≡ None }
     requires running { keeper.old.marks.now.stopped.items ≡ [] }
@@ -194,6 +199,7 @@ fn start_by<D: Disk>(
     ensures stands { IfOk result (λ came. IfDone came (λ made. StandsOn (view_of keeper.new.keeper.store.now) made.0)) }
     ensures counts { Counted (D.counts keeper.old.keeper.disk.now) (D.counts keeper.new.keeper.disk.now) (result ≡ Ok came.DiskFailed) (IsStop result) }
     ensures ran { IfOk result (λ came. RunsIn came (view_of keeper.old.keeper.store.now) (view_of keeper.new.keeper.store.now) (D.counts keeper.old.keeper.disk.now) (D.counts keeper.new.keeper.disk.now)) }
+    ensures stops { let done = machine.start (view_of keeper.old.keeper.store.now) in IfOk result (λ came. StopsSo came D.tells (D.counts keeper.old.keeper.disk.now).armed (view_of keeper.old.keeper.store.now) done.server.durable (D.view keeper.new.keeper.disk.now)) }
 {
     let answer = Server::start(alloc, keeper);
     turned(answer, keeper.marks.mark.take())

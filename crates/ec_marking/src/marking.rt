@@ -1,10 +1,14 @@
 // A keeper that marks the record that it commits.
 ghost use Rattle.std.specs.Prelude.{◌≡◌, ◌⊎◌, ◌++◌, ◌∷◌, [], length, None};
 ghost use Rattle.ec_marking.specs.Marking.{HasMarked, MayHaveMarked};
+ghost use Rattle.ec_marking.specs.OfKeeper.Keeps.{Kept, Broke, Stops};
+ghost use Rattle.ec_store.specs.Store.{view_of};
 
+use crate::keeper::DiskKeeper;
 use crate::marks::Mark;
 use ec_base::NoMemory;
 use ec_base::trace::Trace;
+use ec_disk::Disk;
 use ec_durable::{Durable, Record};
 use ec_server::{KeepFault, Keeper};
 use std::alloc::Global;
@@ -19,23 +23,23 @@ pub(crate) struct Marks {
 }
 
 #[derive(Drop)]
-pub(crate) struct Marking<'a, K: Keeper + Drop> {
+pub(crate) struct Marking<'a, D: Disk> {
     pub(crate) alloc: Global,
-    pub(crate) keeper: K,
+    pub(crate) keeper: DiskKeeper<'a, D>,
     // those before
     pub(crate) records: &'a Trace<Record>,
     pub(crate) marks: &'a mut Marks,
 }
 
-impl<K: Keeper + Drop> Keeper for Marking<'_, K> {
-    ghost kept = { λ k. K.kept k.keeper };
+impl<D: Disk> Keeper for Marking<'_, D> {
+    ghost kept = { λ k. view_of k.keeper.store.now };
 
     // A stop counts where its record has a mark.
-    ghost counts = { λ k. record (K.counts k.keeper) { stops = length k.marks.now.stopped.items } };
+    ghost counts = { λ k. record (D.counts k.keeper.disk.now) { stops = length k.marks.now.stopped.items } };
 
-    ghost did = { λ old r new. K.did old.keeper r new.keeper × (new.marks.ghost_name ≡ old.marks.ghost_name) × HasMarked new.marks.now.mark r (K.kept old.keeper) old.records.now.items (K.counts old.keeper) (K.counts new.keeper) };
+    ghost did = { λ old r new. Kept D.tells D.view D.counts old.keeper r new.keeper × (new.marks.ghost_name ≡ old.marks.ghost_name) × HasMarked new.marks.now.mark r (view_of old.keeper.store.now) old.records.now.items (D.counts old.keeper.disk.now) (D.counts new.keeper.disk.now) };
 
-    ghost broke = { λ old r new. (new.marks.ghost_name ≡ old.marks.ghost_name) × MayHaveMarked (new.keeper ≡ old.keeper) (K.broke old.keeper r new.keeper) old.marks.now.stopped.items new.marks.now.stopped.items new.marks.now.mark r (K.kept old.keeper) old.records.now.items (K.counts old.keeper) (K.counts new.keeper) };
+    ghost broke = { λ old r new. (new.marks.ghost_name ≡ old.marks.ghost_name) × MayHaveMarked (new.keeper ≡ old.keeper) (Broke D.tells D.view D.counts old.keeper r new.keeper) (Stops D.tells D.view D.counts old.keeper r new.keeper) old.marks.now.stopped.items new.marks.now.stopped.items new.marks.now.mark r (view_of old.keeper.store.now) old.records.now.items (D.counts old.keeper.disk.now) (D.counts new.keeper.disk.now) };
 
     fn view(&self) -> &Durable {
         self.keeper.view()

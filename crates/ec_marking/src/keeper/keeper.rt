@@ -1,13 +1,12 @@
 // A store and its disk, as a server's keeper.
-ghost use Rattle.std.specs.Prelude.{◌≡◌, ◌<◌, ◌≤◌, ℕ, Ok};
-ghost use Rattle.ec_disk.specs.Effects.{Called, Turned};
-ghost use Rattle.ec_durable.specs.Codes.{record_code};
+ghost use Rattle.std.specs.Prelude.{◌≡◌, true, Ok, Err, OnOk, IfErr};
+ghost use Rattle.ec_disk.specs.Effects.{Counted};
 ghost use Rattle.ec_durable.specs.Durable.{step};
-ghost use Rattle.ec_journal.specs.Journal.{need_of};
-ghost use Rattle.ec_marking.specs.OfKeeper.Keeps.{KeepsRecord, LeavesRecord};
-ghost use Rattle.ec_journal.specs.OfLayout.Selected.{free_now};
-ghost use Rattle.ec_stands.specs.Stands.{StandsFor};
-ghost use Rattle.ec_store.specs.Store.{IsHeld, view_of};
+ghost use Rattle.ec_durable.specs.SoundRecords.{is_sound_record};
+ghost use Rattle.ec_marking.specs.OfKeeper.Keeps.{Kept, Broke, Stops};
+ghost use Rattle.ec_server.specs.Kept.{KeeperRefuses};
+ghost use Rattle.ec_server.specs.declared.keeper.KeepFault.TheVariants as fault;
+ghost use Rattle.ec_store.specs.Store.{view_of};
 
 use ec_disk::Disk;
 use ec_durable::{Durable, Record};
@@ -38,25 +37,23 @@ impl<D: Disk> Keeper for DiskKeeper<'_, D> {
 
     ghost counts = { λ keeper. D.counts keeper.disk.now };
 
-    ghost did = { λ old change new.
-        (new.store.ghost_name ≡ old.store.ghost_name) × (new.disk.ghost_name ≡ old.disk.ghost_name)
-        × (step change (view_of old.store.now) ≡ Ok (view_of new.store.now))
-        × (D.tells → IsHeld (D.view old.disk.now) old.store.now → KeepsRecord change old.store.now new.store.now (D.view old.disk.now) (D.view new.disk.now))
-        × (need_of (record_code.spell change) ≤ free_now old.store.now.selected → Called 4 (D.counts old.disk.now) (D.counts new.disk.now))
-        × ((turns : ℕ) × Turned turns (D.counts old.disk.now).armed (D.counts new.disk.now).armed (Unit {0}) ⊥
-        × (need_of (record_code.spell change) ≤ free_now old.store.now.selected → turns ≡ 4) × (free_now old.store.now.selected < need_of (record_code.spell change) → 9 ≤ turns)) };
+    ghost did = { λ old change new. Kept D.tells D.view D.counts old change new };
 
-    ghost broke = { λ old change new.
-        (new.store.ghost_name ≡ old.store.ghost_name) × (new.disk.ghost_name ≡ old.disk.ghost_name)
-        × (D.tells → IsHeld (D.view old.disk.now) old.store.now → LeavesRecord change old.store.now (D.view old.disk.now) (D.view new.disk.now))
-        × ((turns : ℕ) × Turned turns (D.counts old.disk.now).armed (D.counts new.disk.now).armed ⊥ ⊥ × (need_of (record_code.spell change) ≤ free_now old.store.now.selected → turns ≤ 4))
-        × (D.tells → IsHeld (D.view old.disk.now) old.store.now → StandsFor (D.view new.disk.now).synced (view_of old.store.now)) };
+    ghost broke = { λ old change new. Broke D.tells D.view D.counts old change new };
 
     fn view(&self) -> &Durable {
         self.store.view()
     }
 
-    fn commit(&mut self, change: &Record) -> Result<(), KeepFault> {
+    // Where the disk stopped, the number that it was armed with tells what is there.
+    fn commit(&mut self, change: &Record) -> Result<(), KeepFault>
+        requires sound { is_sound_record change.now ≡ true }
+        ensures ok { OnOk result (step change.now (view_of self.old.store.now) ≡ Ok (view_of self.new.store.now)) }
+        ensures did { OnOk result (Kept D.tells D.view D.counts self.old change.now self.new) }
+        ensures err { IfErr result (λ fault. KeeperRefuses (Broke D.tells D.view D.counts) fault change.now (view_of self.old.store.now) self.old self.new) }
+        ensures counts { Counted (D.counts self.old.disk.now) (D.counts self.new.disk.now) (result ≡ Err fault.DiskFailed) (result ≡ Err fault.DiskStopped) }
+        ensures stops { result ≡ Err fault.DiskStopped → Stops D.tells D.view D.counts self.old change.now self.new }
+    {
         match self.store.commit(self.disk, change) {
             Ok(()) => Ok(()),
             Err(StoreFault::Refused(fault)) => Err(KeepFault::Refused(fault)),

@@ -12,7 +12,7 @@ use Rattle.ec_server.specs.declared.fault.ServerFault.TheVariants as server
 use Rattle.ec_store.specs.Store.{view_of}
 use Rattle.ec_marking.specs.Keeping.{IsDone, Turns, HasMark}
 use Rattle.ec_marking.specs.declared.marks.Mark.{Mark}
-use Rattle.ec_marking.proofs.Outcomes.{Undone, disk_did, disk_broke, means, done_is, undone, has_mark, came_is, spent_is, same_is, ok_counted, ok_ran, err_counted, came_ran, counts_are, leaves_spends, unstarted_spends, steps_up}
+use Rattle.ec_marking.proofs.Outcomes.{Undone, disk_did, disk_broke, means, done_is, undone, has_mark, came_is, spent_is, same_is, ok_counted, ok_ran, err_counted, came_ran, err_stops, came_stops, counts_are, leaves_spends, unstarted_spends, steps_up}
 use Rattle.ec_marking.proofs.keeping.take_by.Goals as goal
 
 pub turned-requires : goal.turned-requires
@@ -162,3 +162,27 @@ returns-clause-ran g c =
     let m = means tells view counts k l (λ told image le left. g.met.D.Disk.counts_now told l.keeper.disk.now (view k.keeper.disk.now).moment image le left) (λ told. g.met.D.Disk.given_synced told k.keeper.disk.now) c.requires.held c.requires.unmarked c.requires.running in
     let turns = subst (λ (o : Option Mark). Turns answer o c.turned.result) c.take.ensures.value c.turned.ensures in
     came_ran Served (view_of k.keeper.store.now) (view_of l.keeper.store.now) a b mark answer c.turned.result turns (ok_ran Served (λ (x : Served). x) _ did broke k l tells k.keeper.store.now l.keeper.store.now now mark before a b stops m answer c.take-answer.ensures.did)
+
+pub returns-clause-stops : goal.returns-clause-stops
+returns-clause-stops g c =
+    let k = c.args.keeper.now in
+    let l = c.take-answer.new.keeper in
+    let answer = c.take-answer.result in
+    let tells = g.D.Disk.tells in
+    let view = g.D.Disk.view in
+    let counts = g.D.Disk.counts in
+    let did = disk_did tells view counts in
+    let broke = disk_broke tells view counts in
+    let d = view_of k.keeper.store.now in
+    let done = machine.take c.args.from c.args.msg.now (standing d c.args.server.now) in
+    let a = counts k.keeper.disk.now in
+    let b = counts l.keeper.disk.now in
+    let stops = length l.marks.now.stopped.items in
+    let now = view l.keeper.disk.now in
+    let before = k.records.now.items in
+    let mark = l.marks.now.mark in
+    let moved = subst (λ (n : ℕ). Counted (record a { stops = n }) (record b { stops = stops }) (answer ≡ Err server.DiskFailed) (answer ≡ Err server.DiskStopped)) (ap (λ (rs : List Record). length rs) c.requires.running) c.take-answer.ensures.counts in
+    let m = means tells view counts k l (λ told image le left. g.met.D.Disk.counts_now told l.keeper.disk.now (view k.keeper.disk.now).moment image le left) (λ told. g.met.D.Disk.given_synced told k.keeper.disk.now) c.requires.held c.requires.unmarked c.requires.running in
+    let steps = steps_up answer _ _ done d k l c.take-answer.ensures.down c.take-answer.ensures.rests (λ up. (take_goes c.args.from c.args.msg.now (standing d c.args.server.now) (c.requires.stands up)).record_of) in
+    let turns = subst (λ (o : Option Mark). Turns answer o c.turned.result) c.take.ensures.value c.turned.ensures in
+    came_stops Served tells a.armed d done.server.durable now mark answer c.turned.result turns (err_stops Served _ did broke k l tells k.keeper.store.now l.keeper.store.now now mark before a b stops done m answer c.take-answer.ensures.keeper steps moved.stopped)
