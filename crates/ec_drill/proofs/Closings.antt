@@ -161,7 +161,7 @@ cut_within tells seen w v e c lines held now writes writes_after faults faults_a
 }
 
 -- a step on a disk that isn't armed runs
-pub unarmed_step : (tells : Type 0) (old new : Counts) (e : Event) (w : World) (m : Moving) → old.armed ≡ None → (fate : Fate) × FateOf fate w.durable m.world.durable old new × (IsTold fate tells → happen fate e w ≡ m) × (tells → IsShown fate w.choice w.shown m.world.shown) → happen runs e w ≡ m
+pub unarmed_step : (tells : Type 0) (old new : Counts) (e : Event) (w : World) (m : Moving) → old.armed ≡ None → (fate : Fate) × FateOf fate w.durable m.world.durable old new × (IsTold fate tells → happen fate e w ≡ m) × (tells → IsShown fate w.choice old.armed w.shown m.world.shown) → happen runs e w ≡ m
 unarmed_step tells old new e w m un (fate, here, is, chosen) = subst (λ (f : Fate). IsTold f tells → happen f e w ≡ m) (unarmed_runs fate w.durable m.world.durable old new un here) is tt
 
 pub disarmed_rose : (old mid new : Counts) → mid ≡ record old { armed = None } → Rose mid.faults new.faults → Rose old.faults new.faults

@@ -23,7 +23,7 @@ if_ok (Ok x) h = h
 if_ok (Err e) h = tt
 
 -- a step of the world
-pub arm_by : (tells : Type 0) (f : Fate) (w v : World) (old new : Counts) → FateOf f w.durable v.durable old new → (tells → IsShown f w.choice w.shown v.shown) → IsTold f tells → ArmBy f w v old.armed new.armed
+pub arm_by : (tells : Type 0) (f : Fate) (w v : World) (old new : Counts) → FateOf f w.durable v.durable old new → (tells → IsShown f w.choice old.armed w.shown v.shown) → IsTold f tells → ArmBy f w v old.armed new.armed
 arm_by tells runs w v old new h chosen told = (h.turns, h.takes, h.next, h.none_due)
 arm_by tells stops_without w v old new h chosen told = (h.armed, h.disarmed, chosen told)
 arm_by tells stops_with w v old new h chosen told = (h.armed, h.disarmed, chosen told)

@@ -23,11 +23,12 @@ any_arm [] = false
 any_arm (r ∷ rs) = is_arm_read r || any_arm rs
 
 -- What a step from one world to the next makes of the arm of the disk, by its fate. One that runs takes its reads, writes and syncs, none of which is
--- the one that stops. One that stops does so on an armed disk, ends the arm, shows `stopped`, and leaves its record only where the world's choice may.
+-- the one that stops. One that stops does so on an armed disk, ends the arm, and shows `stopped`. Its record is left by the turn for which the disk was armed and
+-- by the world's choice.
 abbrev pub ArmBy : Fate → World → World → Option ℕ → Option ℕ → Type 0
 ArmBy runs w v old new = (turns : ℕ) × Takes turns w.durable v.durable × (new ≡ after_calls turns old) × NoneDue turns old
-ArmBy stops_without w v old new = IsSome old × (new ≡ None) × IsShown stops_without w.choice w.shown v.shown
-ArmBy stops_with w v old new = IsSome old × (new ≡ None) × IsShown stops_with w.choice w.shown v.shown
+ArmBy stops_without w v old new = IsSome old × (new ≡ None) × IsShown stops_without w.choice old w.shown v.shown
+ArmBy stops_with w v old new = IsSome old × (new ≡ None) × IsShown stops_with w.choice old w.shown v.shown
 
 -- The steps by which a line settles, one behind the other.
 abbrev pub SettleArms : ℕ → Fates → Moving → Option ℕ → Option ℕ → Type 0

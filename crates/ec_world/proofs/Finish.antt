@@ -1,7 +1,9 @@
 -- A world goes on behind what came of its server's step.
-use Rattle.std.proofs.Common.{◌≡◌, ◌⊎◌, ◌<◌, ◌≤◌, inl, inr, ⊎_elim, ℕ, Bool, true, false, List, [], ◌∷◌, ◌++◌, Option, None, Some, Result, Ok, Err, refl, sym, ap, subst, ◌∙◌, arith}
+use Rattle.std.proofs.Common.{◌≡◌, ◌⊎◌, ◌<◌, ◌≤◌, inl, inr, ⊎_elim, ℕ, Bool, true, false, List, [], ◌∷◌, ◌++◌, ◌+◌, Option, None, Some, Result, Ok, Err, refl, sym, ap, subst, ◌∙◌, arith}
 use Rattle.std.specs.Prelude.{OnOk, IfOk, IfErr}
 use Rattle.ec_base.specs.declared.counter.Counter.{Counter}
+use Rattle.std.proofs.lemmas.Bool.Decides.{leb_tells}
+use Rattle.ec_disk.specs.Choices.{cut}
 use Rattle.ec_disk.specs.Counting.{counted_both}
 use Rattle.ec_disk.specs.Disk.{View, Counts}
 use Rattle.ec_disk.specs.Effects.{Counted}
@@ -25,15 +27,15 @@ use Rattle.ec_protocol.specs.World.{Fate, runs, stops_without, stops_with, Movin
 use Rattle.ec_server.specs.Servers.{standing}
 use Rattle.ec_server.specs.declared.server.Server.{Server}
 use Rattle.ec_store.specs.Store.{IsHeld, view_of as state_of}
-use Rattle.ec_marking.specs.KeptRuns.{LeavesEither}
+use Rattle.ec_marking.specs.KeptRuns.{LeavesEither, Halfway, StopsAt}
 use Rattle.ec_world.specs.Cutting.{LeavesBy}
 use Rattle.ec_clerk.specs.OfRunning.Faults.{of_step}
-use Rattle.ec_marking.specs.Keeping.{IsDone, InDoubt, LeavesSome, HasStoppedIn, IsStop, RunsIn}
+use Rattle.ec_marking.specs.Keeping.{IsDone, InDoubt, LeavesSome, HasStoppedIn, IsStop, RunsIn, StopsSo}
 use Rattle.ec_marking.specs.Held.{held_stands}
 use Rattle.ec_world.specs.Laws.{in_step_keeps}
 use Rattle.ec_marking.specs.Marks.{IsMark, gone}
 use Rattle.ec_world.specs.Serving.{serves, IsDoneBy, CameTo, FateIn, Finishes, ArmsBehind, Breaks, FailsSince, stopped_in, with_durable}
-use Rattle.ec_world.specs.Steps.{IsShown}
+use Rattle.ec_world.specs.Steps.{IsShown, IsTurn, MayLack, MayLeave}
 use Rattle.ec_world.specs.StepEnds.{IsTold, Fated, IsLeft, as_before, as_behind, under}
 use Rattle.ec_world.specs.Worlds.{view_of, server_of, ServerStands, IsInStep, KeepsServer}
 use Rattle.ec_clerk.specs.declared.running.fault.StepFault.{StepFault}
@@ -106,33 +108,46 @@ unfolding fate_of
 came_fate false = tt
 came_fate true = tt
 
--- the choice of the world allows it
-pub chosen_by : (ch : Choice) (d e : Durable) (now : View) (there : Bool) (before after : List Shown) → after ≡ before ++ show.Stopped ∷ [] → StandsFor now.synced d → LeavesBy ch d e now there → IsShown (fate_of there) ch before after
+true_apart : true ≡ false → ⊥
+true_apart e = cc
+
+-- A record that is left was there.
+was_there : (ch : Choice) (d e : Durable) (now : View) (turn : ℕ) → LeavesBy ch d e now true → (h : Halfway turn d e now) → h.most ≤ turn + 1
+was_there ch d e now turn back h =
+    ⊎_elim (λ first. absurd (true_apart (back.taken_back (h.early first.1 (cut ch now.gives now.synced) back.left)))) (λ last. omega (arith, last.1)) (leb_tells (turn + 2) h.most)
+
+-- One that `New` doesn't leave wasn't.
+was_not : (d e : Durable) (now : View) (turn : ℕ) → LeavesBy choice.New d e now false → (h : Halfway turn d e now) → turn + 2 ≤ h.most
+was_not d e now turn back h = ⊎_elim (λ first. first.1) (λ last. absurd (true_apart (sym (back.kept (h.late (omega (arith, last.1))))))) (leb_tells (turn + 2) h.most)
+
+in_turn : (May : ℕ → ℕ → Type 0) (turn : ℕ) (d e : Durable) (now : View) (h : Halfway turn d e now) → May turn h.most → IsTurn turn May
+in_turn May turn d e now h may = record { most = h.most; usual = h.usual; within = h.within; may = may }
+
+-- the choice of the world allows it, and the turn in which the stop came
+pub chosen_by : (ch : Choice) (d e : Durable) (now : View) (there : Bool) (armed : Option ℕ) (before after : List Shown) → after ≡ before ++ show.Stopped ∷ [] → StandsFor now.synced d → LeavesBy ch d e now there → StopsAt armed d e now
+    → IsShown (fate_of there) ch armed before after
 unfolding fate_of
-chosen_by choice.Old d e now false before after is synced back = is
-chosen_by choice.Old d e now true before after is synced back = absurd (apart (back.taken_back synced))
-  where
-    apart : true ≡ false → ⊥
-    apart is_so = cc
-chosen_by choice.New d e now false before after is synced back = is
-chosen_by choice.New d e now true before after is synced back = (is, tt)
-chosen_by choice.Torn d e now false before after is synced back = is
-chosen_by choice.Torn d e now true before after is synced back = (is, tt)
+chosen_by choice.Old d e now false armed before after is synced back at = (is, λ turn due. in_turn (MayLack choice.Old) turn d e now (at turn due) tt)
+chosen_by choice.Old d e now true armed before after is synced back at = absurd (true_apart (back.taken_back synced))
+chosen_by choice.New d e now false armed before after is synced back at = (is, λ turn due. in_turn (MayLack choice.New) turn d e now (at turn due) (was_not d e now turn back (at turn due)))
+chosen_by choice.New d e now true armed before after is synced back at = (is, λ turn due. in_turn (MayLeave choice.New) turn d e now (at turn due) (was_there choice.New d e now turn back (at turn due)))
+chosen_by choice.Torn d e now false armed before after is synced back at = (is, λ turn due. in_turn (MayLack choice.Torn) turn d e now (at turn due) tt)
+chosen_by choice.Torn d e now true armed before after is synced back at = (is, λ turn due. in_turn (MayLeave choice.Torn) turn d e now (at turn due) (was_there choice.Torn d e now turn back (at turn due)))
 
 stop_line : (there : Bool) (r : Record) (w : Moved) → (show_line show.Stopped (moving (stopped_in there r w))).world.shown ≡ w.shown ++ show.Stopped ∷ []
 stop_line false r w = refl
 stop_line true r w = refl
 
-pub stop_finishes : (tells : Type 0) (done : Serving) (d : Durable) (s : Option State) (now : View) (r : Record) (there : Bool) (old new : World) → InDoubt tells done d now r
+pub stop_finishes : (tells : Type 0) (done : Serving) (d : Durable) (s : Option State) (armed : Option ℕ) (now : View) (r : Record) (there : Bool) (old new : World) → InDoubt tells done d now r → (tells → StopsAt armed d done.server.durable now)
     → (tells → show_line show.Stopped (moving (stopped_in there r (with_durable d (view_of old)))) ≡ under new) → (tells → LeavesBy old.choice d done.server.durable now there)
-    → Finishes tells (Unit {0}) old.choice (view_of old).shown (λ fate. served fate done (serves s d (view_of old))) (under new)
-stop_finishes tells done d s now r there old new h shows back = (
+    → Finishes tells (Unit {0}) old.choice armed (view_of old).shown (λ fate. served fate done (serves s d (view_of old))) (under new)
+stop_finishes tells done d s armed now r there old new h at shows back = (
   fate_of there,
   came_fate there,
   λ told. served_commits (fate_of there) r done (serves s d (view_of old)) h.unspent h.rec_is ∙ stop_shows there r done d s (view_of old) ∙ shows (told_fate there tells told),
   λ told.
-      chosen_by old.choice d done.server.durable now there (view_of old).shown (view_of new).shown (ap (λ (m : Moving). m.world.shown) (sym (shows told)) ∙ stop_line there r (with_durable d (view_of old)))
-      (h.synced told) (back told),
+      chosen_by old.choice d done.server.durable now there armed (view_of old).shown (view_of new).shown (ap (λ (m : Moving). m.world.shown) (sym (shows told)) ∙ stop_line there r (with_durable d (view_of old)))
+      (h.synced told) (back told) (at told),
 )
 
 -- What is left at a fault.
@@ -182,7 +197,7 @@ done_leaves tells done d w now served' mark h told = done_some tells done d w.re
 
 -- Counts.
 
-pub finished : {T : Type 0} (x : Came T) (tells F G : Type 0) (before mid : Durable) (a b c : Counts) (ch : Choice) (lines : List Shown) (steps others : Fate → Moving) (m : Moving) → Finishes tells (HasStoppedIn x) ch lines steps m → ((fate : Fate) → others fate ≡ steps fate)
+pub finished : {T : Type 0} (x : Came T) (tells F G : Type 0) (before mid : Durable) (a b c : Counts) (ch : Choice) (lines : List Shown) (steps others : Fate → Moving) (m : Moving) → Finishes tells (HasStoppedIn x) ch a.armed lines steps m → ((fate : Fate) → others fate ≡ steps fate)
     → Counted a b F (HasStoppedIn x) → Counted b c G ⊥ → RunsIn x before mid a b → ArmsBehind x mid m.world.durable b.armed c.armed → Fated tells before lines a c ch others m
 finished x tells F G before mid a b c ch lines steps others m h same one two ran arms = (h.0, fate_is x h.0 F G before mid m.world.durable a b c h.1 one two ran arms, λ told. same h.0 ∙ h.2 told, h.3)
 
@@ -195,9 +210,9 @@ counts_on T came.NoMemory done a b c one two = counted_both a b c _ _ _ _ _ _ on
 
 -- What came, as a value of which the case is known.
 
-pub done_finishes : (tells : Type 0) (done : Serving) (d : Durable) (s : Option State) (w new : World) (now : View) (x : Came Served) (served' : Served) (mark : Option Mark) → x ≡ came.Done served' mark → w.piece.items ≡ [] → CameTo tells done d w now x
-    → under new ≡ with_world (send_all served'.sent) (gone mark (under w)) → Finishes tells (HasStoppedIn x) w.choice (view_of w).shown (λ fate. served fate done (serves s d (view_of w))) (under new)
-done_finishes tells done d s w new now x served' mark is none h shown =
+pub done_finishes : (tells : Type 0) (done : Serving) (d : Durable) (s : Option State) (armed : Option ℕ) (w new : World) (now : View) (x : Came Served) (served' : Served) (mark : Option Mark) → x ≡ came.Done served' mark → w.piece.items ≡ [] → CameTo tells done d w now x
+    → under new ≡ with_world (send_all served'.sent) (gone mark (under w)) → Finishes tells (HasStoppedIn x) w.choice armed (view_of w).shown (λ fate. served fate done (serves s d (view_of w))) (under new)
+done_finishes tells done d s armed w new now x served' mark is none h shown =
     (runs, λ stop. subst (λ (y : Came Served). HasStoppedIn y) is stop, λ told. done_shows tells done d s w now served' mark none (subst (CameTo tells done d w now) is h) ∙ sym shown, λ told. tt)
 
 pub done_steps : (tells : Type 0) (done : Serving) (d : Durable) (old new : World) (now : View) (x : Came Served) (served' : Served) (mark : Option Mark) → x ≡ came.Done served' mark → ServerStands (state_of old.store) old.server → CameTo tells done d old now x
@@ -209,14 +224,15 @@ pub done_left : (tells : Type 0) (done : Serving) (d : Durable) (s : Option Stat
 done_left tells done d s w now x served' mark image is h told left =
     some_left done d (served runs done (serves s d (view_of w))) image (behind done (serves s d (view_of w))) (done_leaves tells done d w now served' mark (subst (CameTo tells done d w now) is h) told image left)
 
-pub stopped_finishes : (tells : Type 0) (done : Serving) (d : Durable) (s : Option State) (w new : World) (now : View) (x : Came Served) (mark : Mark) → x ≡ came.Stopped mark → CameTo tells done d w now x
+pub stopped_finishes : (tells : Type 0) (done : Serving) (d : Durable) (s : Option State) (armed : Option ℕ) (w new : World) (now : View) (x : Came Served) (mark : Mark) → x ≡ came.Stopped mark → CameTo tells done d w now x → StopsSo x tells armed d done.server.durable now
     → ((r : Record) (c e : Durable) → IsMark mark r c w.records.items → step r c ≡ Ok e → (tells → LeavesEither r c now) → (there : Bool) × (tells → show_line show.Stopped (moving (stopped_in there r (with_durable c (view_of w)))) ≡ under new) × (tells → LeavesBy w.choice c e now there))
-    → Finishes tells (HasStoppedIn x) w.choice (view_of w).shown (λ fate. served fate done (serves s d (view_of w))) (under new)
-stopped_finishes tells done d s w new now x mark is h shows =
+    → Finishes tells (HasStoppedIn x) w.choice armed (view_of w).shown (λ fate. served fate done (serves s d (view_of w))) (under new)
+stopped_finishes tells done d s armed w new now x mark is h at shows =
     let came_to : CameTo tells done d w now (came.Stopped mark) = subst (CameTo tells done d w now) is h in
     let doubt = came_to.1 in
+    let stops : tells → StopsAt armed d done.server.durable now = subst (λ (y : Came Served). StopsSo y tells armed d done.server.durable now) is at in
     let found = shows came_to.0 d done.server.durable came_to.2 doubt.steps doubt.leaves in
-    subst (λ (y : Came Served). Finishes tells (HasStoppedIn y) w.choice (view_of w).shown (λ fate. served fate done (serves s d (view_of w))) (under new)) (sym is) (stop_finishes tells done d s now came_to.0 found.0 w new doubt found.1 found.2)
+    subst (λ (y : Came Served). Finishes tells (HasStoppedIn y) w.choice armed (view_of w).shown (λ fate. served fate done (serves s d (view_of w))) (under new)) (sym is) (stop_finishes tells done d s armed now came_to.0 found.0 w new doubt stops found.1 found.2)
 
 pub stopped_left : (tells : Type 0) (done : Serving) (d : Durable) (s : Option State) (w : World) (before now : View) (x : Came Served) (mark : Mark) (image : List ℕ) → x ≡ came.Stopped mark
     → (tells → (r : Record) (c : Durable) → LeavesEither r c before → LeavesEither r c now) → CameTo tells done d w before x → tells → now.may_leave image → IsLeft d (served runs done (serves s d (view_of w))) image

@@ -27,7 +27,7 @@ leads fate e old m q f d is r may = is_reached d is m.world (subst (λ x. Reache
 
 -- a step that was done
 pub leads_known : {A : Type 0} (result : Result A WorldFault) (shown_of : A → List Shown) (tells : Type 0) (before behind : Counts) (ch : Choice) (e : Event) (old : State) (end : World)
-    → IfOk result (λ a. (fate : Fate) × FateOf fate old.durable (view_of end).durable before behind × (IsTold fate tells → happen fate e old ≡ record { world = view_of end; shown = shown_of a; fault = None }) × (tells → IsShown fate ch old.shown (view_of end).shown)) → OnOk result (LeadsKnown tells before behind old e (view_of end))
+    → IfOk result (λ a. (fate : Fate) × FateOf fate old.durable (view_of end).durable before behind × (IsTold fate tells → happen fate e old ≡ record { world = view_of end; shown = shown_of a; fault = None }) × (tells → IsShown fate ch before.armed old.shown (view_of end).shown)) → OnOk result (LeadsKnown tells before behind old e (view_of end))
 leads_known (Ok a) shown_of tells before behind ch e old end is = (is.0, is.1, λ told. leads is.0 e old (record { world = view_of end; shown = shown_of a; fault = None }) (is.2 told) refl)
 leads_known (Err f) shown_of tells before behind ch e old end is = tt
 

@@ -23,11 +23,11 @@ use Rattle.ec_store.specs.Store.{view_of as state_of}
 use Rattle.ec_wire.specs.declared.msg.Msg.{Msg}
 use Rattle.ec_world.proofs.Finish.{chosen_by, fate_of, told_fate, came_fate, sends_keep, IsTaken, left_behind, some_left, either_behind, done_leaves}
 use Rattle.ec_world.proofs.Fresh.{fresh}
-use Rattle.ec_marking.specs.KeptRuns.{LeavesEither}
+use Rattle.ec_marking.specs.KeptRuns.{LeavesEither, StopsAt}
 use Rattle.ec_world.specs.Cutting.{LeavesBy}
 use Rattle.ec_marking.specs.Keeping.{IsDone, InDoubt, LeavesSome, HasStoppedIn}
 use Rattle.ec_marking.specs.Marks.{IsMark, MarkOf}
-use Rattle.ec_world.specs.Serving.{serves, with_durable, left_in, CameUp, Finishes}
+use Rattle.ec_world.specs.Serving.{serves, with_durable, left_in, CameUp, StopsUp, Finishes}
 use Rattle.ec_marking.specs.Signs.{sign_of}
 use Rattle.ec_world.specs.StepEnds.{IsLeft, under}
 use Rattle.ec_world.specs.Worlds.{view_of, server_of}
@@ -99,15 +99,15 @@ unfolding fate_of
 stops_up false r t w is = refl
 stops_up true r t w is = ap (λ (q : Record). show_line show.Stopped (moving (on_disk q w))) (sym is)
 
-pub stop_restarts : (tells : Type 0) (d : Durable) (now : View) (r : Record) (there : Bool) (old cut new : World) → old.server ≡ None → InDoubt tells (start d) d now r
+pub stop_restarts : (tells : Type 0) (d : Durable) (armed : Option ℕ) (now : View) (r : Record) (there : Bool) (old cut new : World) → old.server ≡ None → InDoubt tells (start d) d now r → (tells → StopsAt armed d (start d).server.durable now)
     → (tells → view_of cut ≡ left_in there r (with_durable d (view_of old))) → cut.piece.items ≡ [] → under new ≡ show_line show.Stopped (under cut)
-    → (tells → LeavesBy old.choice d (start d).server.durable now there) → Finishes tells (Unit {0}) old.choice (view_of old).shown (λ fate. restart fate (serves None d (view_of old))) (under new)
+    → (tells → LeavesBy old.choice d (start d).server.durable now there) → Finishes tells (Unit {0}) old.choice armed (view_of old).shown (λ fate. restart fate (serves None d (view_of old))) (under new)
 unfolding by_spent
-stop_restarts tells d now r there old cut new none h left fresh_piece shown back = (
+stop_restarts tells d armed now r there old cut new none h at left fresh_piece shown back = (
   fate_of there,
   came_fate there,
   λ told. go (told_fate there tells told),
-  λ told. chosen_by old.choice d (start d).server.durable now there (view_of old).shown (view_of new).shown (lines told) (h.synced told) (back told),
+  λ told. chosen_by old.choice d (start d).server.durable now there armed (view_of old).shown (view_of new).shown (lines told) (h.synced told) (back told) (at told),
 )
   where
     t : Serving
@@ -160,25 +160,26 @@ doubt_restarts tells d before now r u image is h e left = left_behind d (start d
 
 -- What came of a server's start.
 
-pub done_restarts : (tells : Type 0) (d : Durable) (w : World) (now : View) (x : Came (Server × Served)) (made : Server × Served) (mark : Option Mark) (m : Mark) (new : World) → x ≡ came.Done made mark → mark ≡ Some m → w.piece.items ≡ [] → CameUp tells d w now x
+pub done_restarts : (tells : Type 0) (d : Durable) (armed : Option ℕ) (w : World) (now : View) (x : Came (Server × Served)) (made : Server × Served) (mark : Option Mark) (m : Mark) (new : World) → x ≡ came.Done made mark → mark ≡ Some m → w.piece.items ≡ [] → CameUp tells d w now x
     → under new ≡ with_world (send_all made.1.sent) (show_line show.Started (show_noted w.unshown (with_world (λ y. record y { unshown = None }) (under (record w { server = Some made.0; records = m.records })))))
-    → Finishes tells (HasStoppedIn x) w.choice (view_of w).shown (λ fate. restart fate (serves None d (view_of w))) (under new)
-done_restarts tells d w now x made mark m new is some none h shown =
+    → Finishes tells (HasStoppedIn x) w.choice armed (view_of w).shown (λ fate. restart fate (serves None d (view_of w))) (under new)
+done_restarts tells d armed w now x made mark m new is some none h shown =
     let on : Option Mark → Came (Server × Served) = λ o. came.Done made o in
     let up : CameUp tells d w now (on (Some m)) = subst (λ (y : Came (Server × Served)). CameUp tells d w now y) (is ∙ ap on some) h in
     (runs, λ stop. subst (λ (y : Came (Server × Served)). HasStoppedIn y) is stop, λ told. start_shows tells d w now made.0 made.1 m none up ∙ sym shown, λ told. tt)
 
-pub stopped_restarts : (tells : Type 0) (d : Durable) (old cut new : World) (now : View) (x : Came (Server × Served)) (mark : Mark) (there : Bool) → x ≡ came.Stopped mark → old.server ≡ None → CameUp tells d old now x
+pub stopped_restarts : (tells : Type 0) (d : Durable) (armed : Option ℕ) (old cut new : World) (now : View) (x : Came (Server × Served)) (mark : Mark) (there : Bool) → x ≡ came.Stopped mark → old.server ≡ None → CameUp tells d old now x → StopsUp tells d armed now x
     → (tells → (r : Record) (c e : Durable) → mark.sign ≡ sign_of r → mark.records.items ≡ old.records.items ++ r ∷ [] → step r c ≡ Ok e → LeavesEither r c now → view_of cut ≡ left_in there r (with_durable c (view_of old)))
     → cut.piece.items ≡ [] → under new ≡ show_line show.Stopped (under cut)
     → (tells → (r : Record) (c e : Durable) → mark.sign ≡ sign_of r → step r c ≡ Ok e → LeavesBy old.choice c e now there)
-    → Finishes tells (HasStoppedIn x) old.choice (view_of old).shown (λ fate. restart fate (serves None d (view_of old))) (under new)
-stopped_restarts tells d old cut new now x mark there is none h left fresh_piece shown back =
+    → Finishes tells (HasStoppedIn x) old.choice armed (view_of old).shown (λ fate. restart fate (serves None d (view_of old))) (under new)
+stopped_restarts tells d armed old cut new now x mark there is none h at left fresh_piece shown back =
     let up : CameUp tells d old now (came.Stopped mark) = subst (λ (y : Came (Server × Served)). CameUp tells d old now y) is h in
     let doubt = up.1 in
+    let stops : tells → StopsAt armed d (start d).server.durable now = subst (λ (y : Came (Server × Served)). StopsUp tells d armed now y) is at in
     let found : tells → view_of cut ≡ left_in there up.0 (with_durable d (view_of old)) = λ told. left told up.0 d (start d).server.durable up.2.sign_is up.2.records_are doubt.steps (doubt.leaves told) in
-    subst (λ (y : Came (Server × Served)). Finishes tells (HasStoppedIn y) old.choice (view_of old).shown (λ fate. restart fate (serves None d (view_of old))) (under new)) (sym is)
-    (stop_restarts tells d now up.0 there old cut new none doubt found fresh_piece shown (λ told. back told up.0 d (start d).server.durable up.2.sign_is doubt.steps))
+    subst (λ (y : Came (Server × Served)). Finishes tells (HasStoppedIn y) old.choice armed (view_of old).shown (λ fate. restart fate (serves None d (view_of old))) (under new)) (sym is)
+    (stop_restarts tells d armed now up.0 there old cut new none doubt stops found fresh_piece shown (λ told. back told up.0 d (start d).server.durable up.2.sign_is doubt.steps))
 
 pub err_is : {P Q : StepFault → Type 0} (res : Result (Unit {0}) StepFault) → IsErrAnd res P → ((f : StepFault) → P f → Q f) → IfErr res Q
 err_is (Ok u) h by = absurd h

@@ -30,11 +30,11 @@ Faults done answer = IfErr answer (λ fault. IsErrAnd done (λ why. fault ≡ of
 
 pub answer_ok : {A G : Type 0} (done : Result A StepFault) (answer : Result (Vec Shown G) WorldFault) (tells : Type 0) (before : Durable) (lines : List Shown) (old new : Counts) (ch : Choice) (steps : Fate → Moving) (w end : World)
     → OnOk done (Fated tells before lines old new ch steps (under w)) → Answers done answer w.piece.items → view_of end ≡ view_of w
-    → IfOk answer (λ shown. (fate : Fate) × FateOf fate before (view_of end).durable old new × (IsTold fate tells → steps fate ≡ record { world = view_of end; shown = shown.items; fault = None }) × (tells → IsShown fate ch lines (view_of end).shown))
+    → IfOk answer (λ shown. (fate : Fate) × FateOf fate before (view_of end).durable old new × (IsTold fate tells → steps fate ≡ record { world = view_of end; shown = shown.items; fault = None }) × (tells → IsShown fate ch old.armed lines (view_of end).shown))
 answer_ok (Ok x) (Ok s) tells before lines old new ch steps w end fated is same =
     let at_end : State → Moving = λ v. record { world = v; shown = w.piece.items; fault = None } in
     let with_lines : List Shown → Moving = λ ls. record { world = view_of end; shown = ls; fault = None } in
-    (fated.0, subst (λ (v : State). FateOf fated.0 before v.durable old new) (sym same) fated.1, λ told. fated.2 told ∙ ap at_end (sym same) ∙ ap with_lines (sym is.1), λ told. subst (λ (v : State). IsShown fated.0 ch lines v.shown) (sym same) (fated.3 told))
+    (fated.0, subst (λ (v : State). FateOf fated.0 before v.durable old new) (sym same) fated.1, λ told. fated.2 told ∙ ap at_end (sym same) ∙ ap with_lines (sym is.1), λ told. subst (λ (v : State). IsShown fated.0 ch old.armed lines v.shown) (sym same) (fated.3 told))
 answer_ok (Ok x) (Err f) tells before lines old new ch steps w end fated is same = tt
 answer_ok (Err f) (Ok s) tells before lines old new ch steps w end fated is same = let wrong : false ≡ true = is.0 in cc
 answer_ok (Err f) (Err g) tells before lines old new ch steps w end fated is same = tt

@@ -14,7 +14,7 @@ use Rattle.ec_protocol.specs.declared.world.World.{World as Moved}
 use Rattle.ec_protocol.specs.World.{Fate, runs, stops_without, stops_with, Moving, moving, noted, on_disk, stop, show_line}
 use Rattle.ec_server.specs.declared.server.Server.{Server}
 use Rattle.ec_store.specs.declared.store.Store.{Store}
-use Rattle.ec_marking.specs.Keeping.{IsDone, CameOf}
+use Rattle.ec_marking.specs.Keeping.{IsDone, CameOf, StopsSo}
 use Rattle.ec_world.specs.Steps.{IsShown}
 use Rattle.ec_world.specs.StepEnds.{IsTold}
 use Rattle.ec_clerk.specs.declared.running.fault.StepFault.{StepFault}
@@ -42,6 +42,10 @@ abbrev pub CameUp : Type 0 → Durable → World → View → Came (Server × Se
 CameUp tells d w now came =
     CameOf (λ made mark. IsDone tells (server.start d) d w.records.items made.0 w.store now made.1 mark) tells (server.start d) d w.records.items now came
 
+-- A stop in its record is told by the turn of the disk that was due.
+abbrev pub StopsUp : Type 0 → Durable → Option ℕ → View → Came (Server × Served) → Type 0
+StopsUp tells d armed now came = StopsSo came tells armed d (server.start d).server.durable now
+
 -- A stop is one that came, and one that came is shown.
 abbrev pub FateIn : Fate → Type 0 → Type 0
 FateIn runs Stopped = Stopped → ⊥
@@ -49,8 +53,8 @@ FateIn stops_without Stopped = Stopped
 FateIn stops_with Stopped = Stopped
 
 -- The step is the machine's by one of its fates, and a stop of the disk is told by what it left.
-abbrev pub Finishes : Type 0 → Type 0 → Choice → List Shown → (Fate → Moving) → Moving → Type 0
-Finishes tells Stopped choice lines steps m = (fate : Fate) × FateIn fate Stopped × (IsTold fate tells → steps fate ≡ m) × (tells → IsShown fate choice lines m.world.shown)
+abbrev pub Finishes : Type 0 → Type 0 → Choice → Option ℕ → List Shown → (Fate → Moving) → Moving → Type 0
+Finishes tells Stopped choice armed lines steps m = (fate : Fate) × FateIn fate Stopped × (IsTold fate tells → steps fate ≡ m) × (tells → IsShown fate choice armed lines m.world.shown)
 
 -- Faults that break a world: its disk's, and want of memory.
 abbrev pub Breaks : StepFault → Type 0

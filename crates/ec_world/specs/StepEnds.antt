@@ -52,7 +52,7 @@ IsTold stops_with tells = tells
 
 -- The step is the machine's by one of its fates, as the disk and the choice of the world allow, from this state and these lines on.
 abbrev pub Fated : Type 0 → Durable → List Shown → Counts → Counts → Choice → (Fate → Moving) → Moving → Type 0
-Fated tells before lines old new choice steps m = (fate : Fate) × FateOf fate before m.world.durable old new × (IsTold fate tells → steps fate ≡ m) × (tells → IsShown fate choice lines m.world.shown)
+Fated tells before lines old new choice steps m = (fate : Fate) × FateOf fate before m.world.durable old new × (IsTold fate tells → steps fate ≡ m) × (tells → IsShown fate choice old.armed lines m.world.shown)
 
 -- Why a step isn't taken. A fault of the machine changes nothing.
 abbrev pub RefusesEvent : WorldFault → Moving → State → State → Type 0 → Type 0

@@ -1,5 +1,5 @@
 -- What the calls of a world promise.
-use Rattle.std.specs.Prelude.{◌≡◌, ◌++◌, ◌∷◌, ℕ, List, [], length}
+use Rattle.std.specs.Prelude.{◌≡◌, ◌⊎◌, ◌≤◌, ◌+◌, ◌++◌, ◌∷◌, ℕ, List, [], Option, Some, length}
 use Rattle.ec_disk.specs.declared.disk.Choice.{Choice}
 use Rattle.ec_disk.specs.declared.disk.Choice.TheVariants as choice
 use Rattle.ec_durable.specs.declared.state.Durable.{Durable}
@@ -27,13 +27,30 @@ pub record Opens (tells : Type 0) (gives : List ℕ) (most : ℕ) (d : Durable) 
   pub empty : tells → length gives ≡ 0 → d ≡ formatted most
   pub stands : tells → (length gives ≡ 0 → ⊥) → StandsFor gives d
 
--- With the choice `Old` a power cut takes the record back.
-abbrev pub MayLeave : Choice → Type 0
-MayLeave choice.Old = ⊥
-MayLeave _ = Unit {0}
+-- A stop in a turn of a record's commit, of so many: whether its power cut may take the record back. In the last two turns the record is there already, and
+-- `New` leaves what is there.
+abbrev pub MayLack : Choice → ℕ → ℕ → Type 0
+MayLack choice.New turn most = turn + 2 ≤ most
+MayLack _ turn most = Unit {0}
 
--- A stop shows one line behind these, `stopped`, and leaves its record only where the choice may.
-abbrev pub IsShown : Fate → Choice → List Shown → List Shown → Type 0
-IsShown runs choice before after = Unit {0}
-IsShown stops_without choice before after = after ≡ before ++ Stopped ∷ []
-IsShown stops_with choice before after = (after ≡ before ++ Stopped ∷ []) × MayLeave choice
+-- And whether it may leave it: before these turns nothing is there, and `Old` leaves nothing at all.
+abbrev pub MayLeave : Choice → ℕ → ℕ → Type 0
+MayLeave choice.Old turn most = ⊥
+MayLeave _ turn most = most ≤ turn + 1
+
+-- a turn of a commit, which takes four, or nine and more where the journal begins anew
+pub record IsTurn (turn : ℕ) (May : ℕ → ℕ → Type 0) : Type 0 where
+  pub most : ℕ
+  pub usual : (most ≡ 4) ⊎ (9 ≤ most)
+  pub within : turn ≤ most
+  pub may : May turn most
+
+-- the one for which the disk was armed
+abbrev pub InTurn : Option ℕ → (ℕ → ℕ → Type 0) → Type 0
+InTurn armed May = (turn : ℕ) → armed ≡ Some turn → IsTurn turn May
+
+-- A stop shows one line behind these, `stopped`, and its record is left by the turn in which it came and by the choice.
+abbrev pub IsShown : Fate → Choice → Option ℕ → List Shown → List Shown → Type 0
+IsShown runs choice armed before after = Unit {0}
+IsShown stops_without choice armed before after = (after ≡ before ++ Stopped ∷ []) × InTurn armed (MayLack choice)
+IsShown stops_with choice armed before after = (after ≡ before ++ Stopped ∷ []) × InTurn armed (MayLeave choice)

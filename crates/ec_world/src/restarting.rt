@@ -1,5 +1,5 @@
 // Restarts of the server.
-ghost use Rattle.std.specs.Prelude.{◌≡◌, ℕ, List, [], None, Err, IfErr, OnOk};
+ghost use Rattle.std.specs.Prelude.{◌≡◌, ℕ, List, [], None, Err, IfErr, OnOk, Option};
 ghost use Rattle.ec_disk.specs.Effects.{Counted};
 ghost use Rattle.ec_durable.specs.declared.state.Durable.{Durable};
 ghost use Rattle.ec_history.specs.declared.shown.Shown.TheVariants as show;
@@ -8,7 +8,7 @@ ghost use Rattle.ec_server.specs.Servers.{StandsOn};
 ghost use Rattle.ec_store.specs.Store as stores;
 ghost use Rattle.ec_clerk.specs.OfRunning.Faults.{of_step};
 ghost use Rattle.ec_marking.specs.Keeping.{HasStoppedIn, IfDone, IsMarked};
-ghost use Rattle.ec_world.specs.Serving.{CameUp, Finishes, ArmsBehind, Breaks, FailsSince, serves};
+ghost use Rattle.ec_world.specs.Serving.{CameUp, StopsUp, Finishes, ArmsBehind, Breaks, FailsSince, serves};
 ghost use Rattle.ec_world.specs.Worlds.{view_of, IsInStep, KeepsServer};
 ghost use Rattle.ec_world.specs.StepEnds.{under, Fated, RefusesEvent, IsLeft};
 ghost use Rattle.ec_clerk.specs.declared.running.fault.StepFault.TheVariants as fault;
@@ -57,7 +57,7 @@ impl World {
         requires piece { self.old.piece.items ≡ [] }
         requires none { self.old.server ≡ None }
         requires marked { IsMarked came }
-        ensures ok { OnOk result ((d : Durable) → CameUp D.tells d self.old (D.view disk.old) came → Finishes D.tells (HasStoppedIn came) self.old.choice (view_of self.old).shown (λ fate. machine.restart fate (serves None d (view_of self.old))) (under self.new)) }
+        ensures ok { OnOk result ((d : Durable) (armed : Option ℕ) → CameUp D.tells d self.old (D.view disk.old) came → StopsUp D.tells d armed (D.view disk.old) came → Finishes D.tells (HasStoppedIn came) self.old.choice armed (view_of self.old).shown (λ fate. machine.restart fate (serves None d (view_of self.old))) (under self.new)) }
         ensures in_step { OnOk result ((d : Durable) → CameUp D.tells d self.old (D.view disk.old) came → IfDone came (λ made. StandsOn (stores.view_of self.old.store) made.0) → IsInStep D.tells (D.view disk.new) self.new) }
         ensures left { IfErr result (λ fault. D.tells → (d : Durable) → CameUp D.tells d self.old (D.view disk.old) came → (image : List ℕ) → (D.view disk.new).may_leave image → IsLeft d (machine.restart machine.runs (serves None d (view_of self.old))) image) }
         ensures err { IfErr result Breaks }

@@ -11,7 +11,7 @@ ghost use Rattle.ec_store.specs.Store as stores;
 ghost use Rattle.ec_clerk.specs.OfRunning.Faults.{of_step};
 ghost use Rattle.ec_marking.specs.Marks.{gone};
 ghost use Rattle.ec_world.specs.Worlds.{view_of, IsInStep, KeepsServer, ServerStands};
-ghost use Rattle.ec_marking.specs.Keeping.{HasStoppedIn};
+ghost use Rattle.ec_marking.specs.Keeping.{HasStoppedIn, StopsSo};
 ghost use Rattle.ec_world.specs.Serving.{CameTo, Finishes, ArmsBehind, Breaks, FailsSince, serves};
 ghost use Rattle.ec_world.specs.StepEnds.{under, Fated, RefusesEvent, IsLeft};
 ghost use Rattle.ec_world.specs.Sending.{IsFor};
@@ -112,7 +112,7 @@ impl World {
     ) -> Result<(), StepFault>
         requires piece { self.old.piece.items ≡ [] }
         requires stands { ServerStands (stores.view_of self.old.store) self.old.server }
-        ensures ok { OnOk result ((done : Serving) (d : Durable) (s : Option State) → CameTo D.tells done d self.old (D.view disk.old) came → Finishes D.tells (HasStoppedIn came) self.old.choice (view_of self.old).shown (λ fate. machine.served fate done (serves s d (view_of self.old))) (under self.new)) }
+        ensures ok { OnOk result ((done : Serving) (d : Durable) (s : Option State) (armed : Option ℕ) → CameTo D.tells done d self.old (D.view disk.old) came → StopsSo came D.tells armed d done.server.durable (D.view disk.old) → Finishes D.tells (HasStoppedIn came) self.old.choice armed (view_of self.old).shown (λ fate. machine.served fate done (serves s d (view_of self.old))) (under self.new)) }
         ensures in_step { OnOk result ((done : Serving) (d : Durable) → CameTo D.tells done d self.old (D.view disk.old) came → IsInStep D.tells (D.view disk.new) self.new) }
         ensures left { IfErr result (λ fault. D.tells → (done : Serving) (d : Durable) (s : Option State) → CameTo D.tells done d self.old (D.view disk.old) came → (image : List ℕ) → (D.view disk.new).may_leave image → IsLeft d (machine.served machine.runs done (serves s d (view_of self.old))) image) }
         ensures err { IfErr result Breaks }

@@ -119,7 +119,7 @@ impl World {
         event: Event,
     ) -> Result<Vec<Shown>, WorldFault>
         requires { IsInStep D.tells (D.view disk.old) self.old }
-        ensures ok { IfOk result (λ shown. (fate : machine.Fate) × FateOf fate (view_of self.old).durable (view_of self.new).durable (behind_arm event (D.counts disk.old)) (D.counts disk.new) × (IsTold fate D.tells → machine.happen fate event (view_of self.old) ≡ record { world = view_of self.new; shown = shown.items; fault = None }) × (D.tells → IsShown fate self.old.choice (view_of self.old).shown (view_of self.new).shown)) }
+        ensures ok { IfOk result (λ shown. (fate : machine.Fate) × FateOf fate (view_of self.old).durable (view_of self.new).durable (behind_arm event (D.counts disk.old)) (D.counts disk.new) × (IsTold fate D.tells → machine.happen fate event (view_of self.old) ≡ record { world = view_of self.new; shown = shown.items; fault = None }) × (D.tells → IsShown fate self.old.choice (behind_arm event (D.counts disk.old)).armed (view_of self.old).shown (view_of self.new).shown)) }
         ensures reached { OnOk result (LeadsKnown D.tells (behind_arm event (D.counts disk.old)) (D.counts disk.new) (view_of self.old) event (view_of self.new)) }
         ensures in_step { OnOk result (IsInStep D.tells (D.view disk.new) self.new) }
         ensures err { IfErr result (λ fault. RefusesEvent fault (machine.happen machine.runs event (view_of self.old)) (view_of self.old) (view_of self.new) (IsInStep D.tells (D.view disk.new) self.new)) }

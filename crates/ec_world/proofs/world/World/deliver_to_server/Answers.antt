@@ -35,7 +35,7 @@ returns-in-Ok-clause-ok g c =
     let whose : is_for_server s ≡ true = is_for_sent n w.pool c.requires.message.message s c.requires.message.kept c.in-Some.ensures.value c.requires.message.is_for in
     on_both c.finish.result c.finish.ensures.ok c.finish.ensures.arms
     (λ h arms. finished c.in-Ok.came g.D.Disk.tells _ _ d (state_of c.take-taken.new.store) (counts c.args.disk.now) (counts c.take-taken.new.disk) (counts c.finish.new.disk) w.choice (view_of w).shown (λ fate. machine.served fate done (serves (Some (standing d v)) d (view_of mid))) (λ fate. machine.deliver fate n (view_of w)) (under c.finish.new.self)
-    (h done d (Some (standing d v)) c.in-Ok.ensures.came) (deliver_is n s w v c.take-taken.new.server c.take-taken.new.store c.settle.new.self (sym c.in-Some.ensures.value) whose c.in-Some-server.is c.settle.ensures)
+    (h done d (Some (standing d v)) (counts c.args.disk.now).armed c.in-Ok.ensures.came c.in-Ok.ensures.stops) (deliver_is n s w v c.take-taken.new.server c.take-taken.new.store c.settle.new.self (sym c.in-Some.ensures.value) whose c.in-Some-server.is c.settle.ensures)
     c.in-Ok.ensures.counts c.finish.ensures.counts c.in-Ok.ensures.ran arms)
 
 pub returns-in-Ok-clause-in_step : goal.returns-in-Ok-clause-in_step

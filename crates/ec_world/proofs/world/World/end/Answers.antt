@@ -38,7 +38,7 @@ returns-in-Ok-clause-ok g c =
     let mid = behind_end w c.end-ended.new.store c.end-ended.new.server in
     on_both c.finish.result c.finish.ensures.ok c.finish.ensures.arms
     (λ h arms. finished c.in-Ok.came g.D.Disk.tells _ _ d (state_of c.end-ended.new.store) (counts c.args.disk.now) (counts c.end-ended.new.disk) (counts c.finish.new.disk) w.choice (view_of w).shown (λ fate. machine.served fate done (serves (Some (standing d v)) d (view_of mid))) (λ fate. machine.end fate n (view_of w).server (view_of w)) (under c.finish.new.self)
-    (h done d (Some (standing d v)) c.in-Ok.ensures.came) (end_is n w v c.end-ended.new.server c.end-ended.new.store (sym c.if-not-is_open.ensures) c.in-Some.is)
+    (h done d (Some (standing d v)) (counts c.args.disk.now).armed c.in-Ok.ensures.came c.in-Ok.ensures.stops) (end_is n w v c.end-ended.new.server c.end-ended.new.store (sym c.if-not-is_open.ensures) c.in-Some.is)
     c.in-Ok.ensures.counts c.finish.ensures.counts c.in-Ok.ensures.ran arms)
 
 pub returns-in-Ok-clause-in_step : goal.returns-in-Ok-clause-in_step

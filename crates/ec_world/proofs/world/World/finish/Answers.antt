@@ -6,8 +6,8 @@ use Rattle.ec_world.proofs.Starting.{err_is}
 use Rattle.ec_world.proofs.world.World.finish.Goals as goal
 
 pub returns-in_ok-go_on-in-Done-clause-ok : goal.returns-in_ok-go_on-in-Done-clause-ok
-returns-in_ok-go_on-in-Done-clause-ok g c = λ done d s came.
-    done_finishes g.D.Disk.tells done d s c.args.self.now c.go_on.new.self (g.D.Disk.view c.args.disk.now) c.args.came c.in-Done.served c.in-Done.mark c.in-Done.is c.requires.piece came c.in_ok-go_on-in-Done.ensures.ok
+returns-in_ok-go_on-in-Done-clause-ok g c = λ done d s armed came at.
+    done_finishes g.D.Disk.tells done d s armed c.args.self.now c.go_on.new.self (g.D.Disk.view c.args.disk.now) c.args.came c.in-Done.served c.in-Done.mark c.in-Done.is c.requires.piece came c.in_ok-go_on-in-Done.ensures.ok
 
 pub returns-in_ok-go_on-in-Done-clause-in_step : goal.returns-in_ok-go_on-in-Done-clause-in_step
 returns-in_ok-go_on-in-Done-clause-in_step g c = λ done d came.
@@ -21,7 +21,7 @@ returns-in_err-go_on-in-Done-clause-left g c =
 pub returns-in-Stopped-clause-ok : goal.returns-in-Stopped-clause-ok
 returns-in-Stopped-clause-ok g c =
     on_ok c.stop_in.result c.stop_in.ensures.ok
-    (λ shows done d s came. stopped_finishes g.D.Disk.tells done d s c.args.self.now c.stop_in.new.self (g.D.Disk.view c.args.disk.now) c.args.came c.in-Stopped.mark c.in-Stopped.is came shows)
+    (λ shows done d s armed came at. stopped_finishes g.D.Disk.tells done d s armed c.args.self.now c.stop_in.new.self (g.D.Disk.view c.args.disk.now) c.args.came c.in-Stopped.mark c.in-Stopped.is came at shows)
 
 pub returns-in-Stopped-clause-left : goal.returns-in-Stopped-clause-left
 returns-in-Stopped-clause-left g c =

@@ -19,7 +19,7 @@ returns-in-Ok-clause-ok g c =
     on_both c.start_up.result c.start_up.ensures.ok c.start_up.ensures.arms
     (λ up arms.
     restart_finishes g.D.Disk.tells _ _ c.args.self.now c.start-started.new.store c.start_up.new.self (g.D.Disk.view c.start-started.new.disk) c.in-Ok.came (g.D.Disk.counts c.args.disk.now) (g.D.Disk.counts c.start-started.new.disk) (g.D.Disk.counts c.start_up.new.disk) none
-    c.in-Ok.ensures.came up c.in-Ok.ensures.counts c.start_up.ensures.counts c.in-Ok.ensures.ran arms)
+    c.in-Ok.ensures.came c.in-Ok.ensures.stops up c.in-Ok.ensures.counts c.start_up.ensures.counts c.in-Ok.ensures.ran arms)
 
 pub returns-in-Ok-clause-in_step : goal.returns-in-Ok-clause-in_step
 returns-in-Ok-clause-in_step g c = on_ok c.start_up.result c.start_up.ensures.in_step (λ up. up (state_of c.args.self.now.store) c.in-Ok.ensures.came c.in-Ok.ensures.stands)

@@ -5,12 +5,12 @@ use Rattle.ec_world.proofs.Starting.{done_restarts, stopped_restarts, err_is, do
 use Rattle.ec_world.proofs.world.World.start_up.Goals as goal
 
 pub returns-in_ok-come_up-in-Done-clause-ok : goal.returns-in_ok-come_up-in-Done-clause-ok
-returns-in_ok-come_up-in-Done-clause-ok g c = λ d came.
-    done_restarts g.D.Disk.tells d c.args.self.now (g.D.Disk.view c.args.disk.now) c.args.came c.in-Done.made c.in-Done.mark c.in-Some.mark c.come_up.new.self c.in-Done.is c.in-Some.is c.requires.piece came c.in_ok-come_up-in-Done.ensures.ok
+returns-in_ok-come_up-in-Done-clause-ok g c = λ d armed came at.
+    done_restarts g.D.Disk.tells d armed c.args.self.now (g.D.Disk.view c.args.disk.now) c.args.came c.in-Done.made c.in-Done.mark c.in-Some.mark c.come_up.new.self c.in-Done.is c.in-Some.is c.requires.piece came c.in_ok-come_up-in-Done.ensures.ok
 
 pub returns-in_ok-show_line-in-Stopped-clause-ok : goal.returns-in_ok-show_line-in-Stopped-clause-ok
-returns-in_ok-show_line-in-Stopped-clause-ok g c = λ d came.
-    stopped_restarts g.D.Disk.tells d c.args.self.now c.cut_off.new.self c.show_line.new.self (g.D.Disk.view c.args.disk.now) c.args.came c.in-Stopped.mark c.in_ok-cut_off-in-Stopped.field-0 c.in-Stopped.is c.requires.none came c.in_ok-cut_off-in-Stopped.ensures.ok
+returns-in_ok-show_line-in-Stopped-clause-ok g c = λ d armed came at.
+    stopped_restarts g.D.Disk.tells d armed c.args.self.now c.cut_off.new.self c.show_line.new.self (g.D.Disk.view c.args.disk.now) c.args.came c.in-Stopped.mark c.in_ok-cut_off-in-Stopped.field-0 c.in-Stopped.is c.requires.none came at c.in_ok-cut_off-in-Stopped.ensures.ok
     (ap (λ p. p.items) c.in_ok-cut_off-in-Stopped.ensures.piece ∙ c.requires.piece) c.in_ok-show_line-in-Stopped.ensures.ok c.in_ok-cut_off-in-Stopped.ensures.chosen
 
 pub returns-in_err-come_up-in-Done-clause-left : goal.returns-in_err-come_up-in-Done-clause-left
