@@ -5,7 +5,7 @@ use Rattle.std.proofs.lemmas.Bool.Decides.{leb_tells}
 use Rattle.ec_base.specs.Outside.{Rose}
 use Rattle.ec_base.specs.declared.counter.Counter.{Counter}
 use Rattle.ec_disk.specs.Disk.{View, Counts}
-use Rattle.ec_disk.specs.Effects.{LeavesOnly, Counted, Called, Turned}
+use Rattle.ec_disk.specs.Effects.{LeavesOnly, Counted, Turned}
 use Rattle.ec_durable.specs.Durable.{step}
 use Rattle.ec_durable.specs.declared.state.Durable.{Durable}
 use Rattle.ec_durable.specs.declared.record.Record.{Record}
