@@ -61,7 +61,9 @@ impl<D: Disk> Keeper for Marking<'_, D> {
                 self.marks.stopped = self.marks.stopped.and(change);
                 Err(KeepFault::DiskStopped)
             }
-            Err(fault) => Err(fault),
+            Err(KeepFault::Refused(fault)) => Err(KeepFault::Refused(fault)),
+            Err(KeepFault::DiskFailed) => Err(KeepFault::DiskFailed),
+            Err(KeepFault::NoMemory) => Err(KeepFault::NoMemory),
         }
     }
 }
