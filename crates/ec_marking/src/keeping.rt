@@ -74,7 +74,7 @@ pub fn take<D: Disk>(
 
 // The same, by a keeper over the store and the disk that are lent.
 fn take_by<D: Disk>(
-    keeper: &mut Marking<'_, D>,
+    keeper: &mut Marking<'_, '_, D>,
     server: &mut Server,
     from: ClerkId,
     msg: &Msg,
@@ -132,7 +132,7 @@ pub fn end<D: Disk>(
 
 // The same, by a keeper over the store and the disk that are lent.
 fn end_by<D: Disk>(
-    keeper: &mut Marking<'_, D>,
+    keeper: &mut Marking<'_, '_, D>,
     server: &mut Server,
     clerk: ClerkId,
 ) -> Result<Came<Served>, Counter>
@@ -186,7 +186,7 @@ pub fn start<D: Disk>(
 // The same, by a keeper over the store and the disk that are lent.
 fn start_by<D: Disk>(
     alloc: Global,
-    keeper: &mut Marking<'_, D>,
+    keeper: &mut Marking<'_, '_, D>,
 ) -> Result<Came<(Server, Served)>, Counter>
     requires unmarked { keeper.old.marks.now.mark ≡ None }
     requires running { keeper.old.marks.now.stopped.items ≡ [] }

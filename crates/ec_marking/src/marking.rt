@@ -23,15 +23,15 @@ pub(crate) struct Marks {
 }
 
 #[derive(Drop)]
-pub(crate) struct Marking<'a, D: Disk> {
+pub(crate) struct Marking<'k, 'a, D: Disk> {
     pub(crate) alloc: Global,
-    pub(crate) keeper: DiskKeeper<'a, D>,
+    pub(crate) keeper: DiskKeeper<'k, D>,
     // those before
     pub(crate) records: &'a Trace<Record>,
     pub(crate) marks: &'a mut Marks,
 }
 
-impl<D: Disk> Keeper for Marking<'_, D> {
+impl<D: Disk> Keeper for Marking<'_, '_, D> {
     ghost kept = { λ k. view_of k.keeper.store.now };
 
     // A stop counts where its record has a mark.

@@ -4,7 +4,7 @@ use Rattle.ec_protocol.specs.Server as machine
 use Rattle.ec_server.specs.Servers.{standing}
 use Rattle.ec_store.specs.Store.{view_of}
 use Rattle.ec_store.specs.declared.store.Store.{Store}
-use Rattle.ec_marking.specs.Keeping.{IsDone, CameOf, Unchanged}
+use Rattle.ec_marking.specs.Keeping.{IsDone, CameOf, Unchanged, StopsSo}
 use Rattle.ec_marking.proofs.keeping.end.Goals as goal
 use Rattle.ec_base.proofs.Equalities.{moved}
 
@@ -29,4 +29,17 @@ returns-clause-spent g c =
     (λ (o s : Store) (x : g.row.D.Denot). IfErr c.end_by.result (λ n. Unchanged tells (machine.end c.args.clerk (standing (view_of o) c.args.server.now)) n o s (view x)))
     c.new-2.result.store.now l.keeper.store.now l.keeper.disk.now _ _ _
     c.end_by.ensures.spent
+    (search rules) (search rules) (search rules)
+
+pub returns-clause-stops : goal.returns-clause-stops
+returns-clause-stops g c =
+    let tells = g.D.Disk.tells in
+    let view = g.D.Disk.view in
+    let counts = g.D.Disk.counts in
+    let k = c.new-2.result in
+    let l = c.end_by.new.keeper in
+    moved
+    (λ (o : Store) (x y : g.row.D.Denot). IfOk c.end_by.result (λ came. StopsSo came tells (counts x).armed (view_of o) (machine.end c.args.clerk (standing (view_of o) c.args.server.now)).server.durable (view y)))
+    k.store.now k.disk.now l.keeper.disk.now c.args.store.now c.args.disk.now c.disk-1.given.0
+    c.end_by.ensures.stops
     (search rules) (search rules) (search rules)
