@@ -102,9 +102,11 @@ returns-in_err-append-clause-halves g c is told held turn armed =
     let now = g.D.Disk.view c.args.disk.now in
     let new = g.D.Disk.view c.append.new.disk in
     let stopped : IsErrOf c.append.result fault.DiskStopped = search rules in
-    let way = c.append.ensures.halves stopped told turn armed in
-    (stops_within 4 turn (g.D.Disk.counts c.args.disk.now).armed (g.D.Disk.counts c.append.new.disk).armed (IsOk c.append.result) (IsErrOf c.append.result fault.DiskStopped) c.append.ensures.turned stopped armed, record {
-      early = λ first image left. held_lies now s.selected s.named.items s.kept s.state held image (λ l on. (way l on).early (omega (arith, first)) image left);
-      late = λ last e stepped.
-          append_given c.args.change.now c.args.entry.now c.requires.fits c.requires.spelled (sound_steps c.args.change.now c.requires.sound) s.state e stepped now new s.selected s.named.items s.kept held new.gives (λ l on. (way l on).late (omega (arith, last)));
-    })
+    let way = c.append.ensures.halves stopped told turn armed in (
+      stops_within 4 turn (g.D.Disk.counts c.args.disk.now).armed (g.D.Disk.counts c.append.new.disk).armed (IsOk c.append.result) (IsErrOf c.append.result fault.DiskStopped) c.append.ensures.turned stopped armed,
+      record {
+        early = λ first image left. held_lies now s.selected s.named.items s.kept s.state held image (λ l on. (way l on).early (omega (arith, first)) image left);
+        late = λ last e stepped.
+            append_given c.args.change.now c.args.entry.now c.requires.fits c.requires.spelled (sound_steps c.args.change.now c.requires.sound) s.state e stepped now new s.selected s.named.items s.kept held new.gives (λ l on. (way l on).late (omega (arith, last)));
+      },
+    )

@@ -242,11 +242,13 @@ returns-in-Err-done-clause-halves g c is told held turn armed =
     let n = length c.as_slice.result.now + 5 in
     let stopped : c.checkpoint-turned.result ≡ said.Stopped = search rules in
     let few : turn ≤ n = stops_within n turn (g.D.Disk.counts c.args.disk.now).armed (g.D.Disk.counts c.checkpoint-turned.new.disk).armed (c.checkpoint-turned.result ≡ said.Done) (c.checkpoint-turned.result ≡ said.Stopped) c.checkpoint-turned.ensures.turns stopped armed in
-    let only = plan_leaves s.state s.named.items p.kept s.order are c.args.plan p.is Two p.spelled p.fits old s.selected s.kept fewer held mid (λ l m follows on. c.checkpoint-turned.ensures.any_moment told l m (subst (λ t. Follows (other (side_now s.selected)) t (pieces_of c.as_slice.result.now) l m) (sym c.as_slice-2.ensures.value) (subst (λ ps. Follows (other (side_now s.selected)) c.args.plan.table.items (pieces_of ps) l m) (sym c.as_slice.ensures.value) follows)) on) in
-    (omega (arith, few, ap length c.as_slice.ensures.value), record {
-      early = λ first image left. only.each image (g.met.D.Disk.counts_now told c.checkpoint-turned.new.disk old.moment image only.later left);
-      late = λ last. absurd (omega (arith, few, last, ap length c.as_slice.ensures.value));
-    })
+    let only = plan_leaves s.state s.named.items p.kept s.order are c.args.plan p.is Two p.spelled p.fits old s.selected s.kept fewer held mid (λ l m follows on. c.checkpoint-turned.ensures.any_moment told l m (subst (λ t. Follows (other (side_now s.selected)) t (pieces_of c.as_slice.result.now) l m) (sym c.as_slice-2.ensures.value) (subst (λ ps. Follows (other (side_now s.selected)) c.args.plan.table.items (pieces_of ps) l m) (sym c.as_slice.ensures.value) follows)) on) in (
+      omega (arith, few, ap length c.as_slice.ensures.value),
+      record {
+        early = λ first image left. only.each image (g.met.D.Disk.counts_now told c.checkpoint-turned.new.disk old.moment image only.later left);
+        late = λ last. absurd (omega (arith, few, last, ap length c.as_slice.ensures.value));
+      },
+    )
 
 pub returns-in_err-append-clause-halves : goal.returns-in_err-append-clause-halves
 returns-in_err-append-clause-halves g c is told held turn armed =
@@ -267,9 +269,11 @@ returns-in_err-append-clause-halves g c is told held turn armed =
     let armed_mid : b ≡ Some (turn - n) = turns.turned.next ∙ ap (λ (o : Option ℕ). after_calls turns.turns o) armed ∙ ap (λ (k : ℕ). Some (turn - k)) (turns.all went) in
     let there = plan_holds s.state s.named.items p.kept s.order are c.args.plan p.is Two p.spelled p.fits old s.selected s.kept fewer held mid c.checkpoint-turned.new.self (λ l m follows on. c.checkpoint-turned.ensures.done told went l m (subst (λ t. Follows (other (side_now s.selected)) t (pieces_of c.as_slice.result.now) l m) (sym c.as_slice-2.ensures.value) (subst (λ ps. Follows (other (side_now s.selected)) c.args.plan.table.items (pieces_of ps) l m) (sym c.as_slice.ensures.value) follows)) on) in
     let way = c.append.ensures.halves stopped told (turn - n) armed_mid in
-    let few : turn - n ≤ 4 = stops_within 4 (turn - n) b (g.D.Disk.counts c.append.new.disk).armed (IsOk c.append.result) (IsErrOf c.append.result fault.DiskStopped) c.append.ensures.turned stopped armed_mid in
-    (omega (arith, few, ap length c.as_slice.ensures.value), record {
-      early = λ first image left. held_lies mid c.checkpoint-turned.new.self c.args.plan.named.items c.args.plan.kept s.state there image (λ l on. (way l on).early (omega (arith, first, ap length c.as_slice.ensures.value)) image left);
-      late = λ last e stepped.
-          append_given c.args.change.now c.args.entry.now c.requires.fits c.requires.spelled (sound_steps c.args.change.now c.requires.sound) s.state e stepped mid new c.checkpoint-turned.new.self c.args.plan.named.items c.args.plan.kept there new.gives (λ l on. (way l on).late (omega (arith, last, behind, ap length c.as_slice.ensures.value)));
-    })
+    let few : turn - n ≤ 4 = stops_within 4 (turn - n) b (g.D.Disk.counts c.append.new.disk).armed (IsOk c.append.result) (IsErrOf c.append.result fault.DiskStopped) c.append.ensures.turned stopped armed_mid in (
+      omega (arith, few, ap length c.as_slice.ensures.value),
+      record {
+        early = λ first image left. held_lies mid c.checkpoint-turned.new.self c.args.plan.named.items c.args.plan.kept s.state there image (λ l on. (way l on).early (omega (arith, first, ap length c.as_slice.ensures.value)) image left);
+        late = λ last e stepped.
+            append_given c.args.change.now c.args.entry.now c.requires.fits c.requires.spelled (sound_steps c.args.change.now c.requires.sound) s.state e stepped mid new c.checkpoint-turned.new.self c.args.plan.named.items c.args.plan.kept there new.gives (λ l on. (way l on).late (omega (arith, last, behind, ap length c.as_slice.ensures.value)));
+      },
+    )
