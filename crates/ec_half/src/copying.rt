@@ -43,6 +43,8 @@ pub fn join<S: CrashDisk, O: CrashDisk>(
     number: u64,
 ) -> Joined
     requires { other.old.generation.number < number }
+    ensures source_from { source.new.from ≡ source.old.from }
+    ensures other_from { other.new.from ≡ other.old.from }
     ensures source_stop { source.new.may_stop ≡ source.old.may_stop }
     ensures other_stop { other.new.may_stop ≡ other.old.may_stop }
     ensures never_stops { source.old.may_stop ≡ false → other.old.may_stop ≡ false → result ≡ joined.Fault said.Stopped → ⊥ }
@@ -93,6 +95,7 @@ fn without_other<S: CrashDisk>(source: &mut Half<'_, S>, fault: DiskAnswer, numb
     ensures raised { result ≡ joined.SourceAlone → source.new.generation.number ≡ number + 1 }
     ensures both { result ≡ joined.Both → ⊥ }
     ensures not_done { result ≡ joined.Fault said.Done → ⊥ }
+    ensures from { source.new.from ≡ source.old.from }
     ensures stop { source.new.may_stop ≡ source.old.may_stop }
     ensures never_stops { source.old.may_stop ≡ false → (fault ≡ said.Stopped → ⊥) → result ≡ joined.Fault said.Stopped → ⊥ }
     ensures keeps { source.old.has_failed ≡ true → source.new.has_failed ≡ true }
@@ -117,6 +120,7 @@ fn without_other<S: CrashDisk>(source: &mut Half<'_, S>, fault: DiskAnswer, numb
 
 /// Writes zeros from the content's end up to this place, and syncs, where it lies behind that end.
 pub fn lengthen<D: CrashDisk>(half: &mut Half<'_, D>, from: u64, to: u64) -> DiskAnswer
+    ensures from { half.new.from ≡ half.old.from }
     ensures may_stop { half.new.may_stop ≡ half.old.may_stop }
     ensures failed { result ≡ said.Failed → half.new.has_failed ≡ true }
     ensures generation { half.new.generation ≡ half.old.generation }
@@ -149,6 +153,8 @@ fn copy<S: CrashDisk, O: CrashDisk>(
     ensures other_generation { other.new.generation ≡ other.old.generation }
     ensures source_most { source.new.most ≡ source.old.most }
     ensures other_most { other.new.most ≡ other.old.most }
+    ensures source_from { source.new.from ≡ source.old.from }
+    ensures other_from { other.new.from ≡ other.old.from }
     ensures source_stop { source.new.may_stop ≡ source.old.may_stop }
     ensures other_stop { other.new.may_stop ≡ other.old.may_stop }
     ensures source_never { source.old.may_stop ≡ false → result ≡ copied.OfSource said.Stopped → ⊥ }

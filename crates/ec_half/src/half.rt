@@ -73,6 +73,7 @@ impl<'a, D: CrashDisk> Half<'a, D> {
         ensures failed { result ≡ said.Failed → self.new.has_failed ≡ true }
         ensures keeps { self.old.has_failed ≡ true → self.new.has_failed ≡ true }
         ensures generation { self.new.generation ≡ self.old.generation }
+        ensures from { self.new.from ≡ self.old.from }
         ensures bytes { D.tells → result ≡ said.Done → into.new ≡ part (content_behind (D.view self.old.disk.now)).gives at (length into.old) }
         ensures rests { D.tells → Rested (content_behind (D.view self.old.disk.now)) (content_behind (D.view self.new.disk.now)) }
         ensures known { self.new.len ≡ self.old.len }
@@ -93,6 +94,7 @@ impl<'a, D: CrashDisk> Half<'a, D> {
         ensures failed { result ≡ said.Failed → self.new.has_failed ≡ true }
         ensures keeps { self.old.has_failed ≡ true → self.new.has_failed ≡ true }
         ensures generation { self.new.generation ≡ self.old.generation }
+        ensures from { self.new.from ≡ self.old.from }
         ensures written { D.tells → result ≡ said.Done → HasHeader (D.view self.old.disk.now) → (content_behind (D.view self.new.disk.now)).gives ≡ written at piece.now (content_behind (D.view self.old.disk.now)).gives }
         ensures header { D.tells → result ≡ said.Done → HasHeader (D.view self.old.disk.now) → HasHeader (D.view self.new.disk.now) }
         ensures loosened { D.tells → Loosened (InRange at (length piece.now)) (content_behind (D.view self.old.disk.now)) (content_behind (D.view self.new.disk.now)) }
@@ -122,6 +124,7 @@ impl<'a, D: CrashDisk> Half<'a, D> {
         ensures failed { result ≡ said.Failed → self.new.has_failed ≡ true }
         ensures keeps { self.old.has_failed ≡ true → self.new.has_failed ≡ true }
         ensures generation { self.new.generation ≡ self.old.generation }
+        ensures from { self.new.from ≡ self.old.from }
         ensures stays { D.tells → Stays (content_behind (D.view self.old.disk.now)) (content_behind (D.view self.new.disk.now)) }
         ensures all_synced { D.tells → result ≡ said.Done → AllSynced (content_behind (D.view self.new.disk.now)) }
         ensures saved { D.tells → result ≡ said.Done → (content_behind (D.view self.new.disk.now)).synced ≡ (content_behind (D.view self.new.disk.now)).gives }
@@ -141,6 +144,7 @@ impl<'a, D: CrashDisk> Half<'a, D> {
         ensures failed { result ≡ len.Failed → self.new.has_failed ≡ true }
         ensures keeps { self.old.has_failed ≡ true → self.new.has_failed ≡ true }
         ensures generation { self.new.generation ≡ self.old.generation }
+        ensures from { self.new.from ≡ self.old.from }
         ensures len { D.tells → (n : ℕ) → result ≡ len.Len n → n ≡ length (content_behind (D.view self.old.disk.now)).gives }
         ensures header { D.tells → HasHeader (D.view self.old.disk.now) → HasHeader (D.view self.new.disk.now) }
         ensures rests { D.tells → Rested (content_behind (D.view self.old.disk.now)) (content_behind (D.view self.new.disk.now)) }
@@ -168,6 +172,7 @@ impl<'a, D: CrashDisk> Half<'a, D> {
         ensures keeps { self.old.has_failed ≡ true → self.new.has_failed ≡ true }
         ensures raised { result ≡ said.Done → self.new.generation.number ≡ number }
         ensures generation { (result ≡ said.Done → ⊥) → self.new.generation ≡ self.old.generation }
+        ensures from { self.new.from ≡ self.old.from }
         ensures stays { D.tells → result ≡ said.Done → Stays (content_behind (D.view self.old.disk.now)) (content_behind (D.view self.new.disk.now)) }
         ensures all_synced { D.tells → result ≡ said.Done → AllSynced (content_behind (D.view self.new.disk.now)) }
         ensures saved { D.tells → result ≡ said.Done → (content_behind (D.view self.new.disk.now)).synced ≡ (content_behind (D.view self.new.disk.now)).gives }
@@ -196,6 +201,7 @@ impl<'a, D: CrashDisk> Half<'a, D> {
         ensures failed { result ≡ said.Failed → self.new.has_failed ≡ true }
         ensures keeps { self.old.has_failed ≡ true → self.new.has_failed ≡ true }
         ensures generation { self.new.generation ≡ self.old.generation }
+        ensures from { self.new.from ≡ self.old.from }
         ensures fewer { D.tells → Fewer (content_behind (D.view self.old.disk.now)) (content_behind (D.view self.new.disk.now)) }
         ensures leaves { D.tells → result ≡ said.Done → (content_behind (D.view self.new.disk.now)).gives ≡ cut choice (content_behind (D.view self.old.disk.now)).gives (content_behind (D.view self.old.disk.now)).synced }
         ensures all_synced { D.tells → result ≡ said.Done → AllSynced (content_behind (D.view self.new.disk.now)) }
@@ -213,6 +219,7 @@ impl<'a, D: CrashDisk> Half<'a, D> {
         ensures may_stop { self.new.may_stop ≡ false }
         ensures failed { self.new.has_failed ≡ self.old.has_failed }
         ensures generation { self.new.generation ≡ self.old.generation }
+        ensures from { self.new.from ≡ self.old.from }
         ensures rests { D.tells → Rested (content_behind (D.view self.old.disk.now)) (content_behind (D.view self.new.disk.now)) }
         ensures known { self.new.len ≡ self.old.len }
         ensures most { self.new.most ≡ self.old.most }
@@ -221,13 +228,14 @@ impl<'a, D: CrashDisk> Half<'a, D> {
         self.may_stop = false;
     }
 
-    // The same where the header is there.
-    fn known_len(&mut self) -> Result<u64, DiskAnswer>
+    /// The same where the header is there.
+    pub fn known_len(&mut self) -> Result<u64, DiskAnswer>
         ensures may_stop { self.new.may_stop ≡ self.old.may_stop }
         ensures never_stops { self.old.may_stop ≡ false → IsErrOf result said.Stopped → ⊥ }
         ensures failed { IsErrOf result said.Failed → self.new.has_failed ≡ true }
         ensures keeps { self.old.has_failed ≡ true → self.new.has_failed ≡ true }
         ensures generation { self.new.generation ≡ self.old.generation }
+        ensures from { self.new.from ≡ self.old.from }
         ensures not_done { IsErrOf result said.Done → ⊥ }
         ensures len { IfOk result (λ len. D.tells → HasLength (D.view self.new.disk.now) len) }
         ensures rests { D.tells → Rested (content_behind (D.view self.old.disk.now)) (content_behind (D.view self.new.disk.now)) }
@@ -255,6 +263,7 @@ impl<'a, D: CrashDisk> Half<'a, D> {
         ensures failed { answer ≡ said.Failed → self.new.has_failed ≡ true }
         ensures keeps { self.old.has_failed ≡ true → self.new.has_failed ≡ true }
         ensures generation { self.new.generation ≡ self.old.generation }
+        ensures from { self.new.from ≡ self.old.from }
         ensures disk { self.new.disk.now ≡ self.old.disk.now }
         ensures known { self.new.len ≡ self.old.len }
         ensures most { self.new.most ≡ self.old.most }

@@ -11,6 +11,8 @@ returns-in_default-write-clause-source_rests g c told = rested-then _ _ _ (c.pie
 
 pub pieces-preserved : goal.pieces-preserved
 pieces-preserved g c = record {
+  source_from = search rules;
+  other_from = search rules;
   source_stop = search rules;
   other_stop = search rules;
   source_keeps = search rules;

@@ -5,6 +5,8 @@ use Rattle.ec_half.proofs.copying.copy.Given as goal
 
 abbrev pub invariant-pieces : goal.invariant-pieces
 invariant-pieces g l = record {
+  source_from : l.source.from ≡ l.fn.source.from;
+  other_from : l.other.from ≡ l.fn.other.from;
   source_stop : l.source.may_stop ≡ l.fn.source.may_stop;
   other_stop : l.other.may_stop ≡ l.fn.other.may_stop;
   source_keeps : l.fn.source.has_failed ≡ true → l.source.has_failed ≡ true;

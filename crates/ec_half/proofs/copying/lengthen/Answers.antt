@@ -9,6 +9,7 @@ returns-then-to-from-clause-filled g c done told long is = filled-short (content
 
 pub pieces-init : goal.pieces-init
 pieces-init g c = record {
+  from = search rules;
   may_stop = search rules;
   generation = search rules;
   most = search rules;
@@ -20,6 +21,7 @@ pieces-init g c = record {
 
 pub pieces-preserved : goal.pieces-preserved
 pieces-preserved g c = record {
+  from = search rules;
   may_stop = search rules;
   generation = search rules;
   most = search rules;

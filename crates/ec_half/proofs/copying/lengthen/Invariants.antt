@@ -5,6 +5,7 @@ use Rattle.ec_half.proofs.copying.lengthen.Given as goal
 
 abbrev pub invariant-pieces : goal.invariant-pieces
 invariant-pieces g l = record {
+  from : l.half.from ≡ l.fn.half.from;
   may_stop : l.half.may_stop ≡ l.fn.half.may_stop;
   generation : l.half.generation ≡ l.fn.half.generation;
   most : l.half.most ≡ l.fn.half.most;
