@@ -96,32 +96,30 @@ module _ (old mid : Tally) (G S : Type 0) (counts : Counted (counts_of old) (cou
   turned_on answer new goes never is = subst (λ (t : Tally). TallyTurned answer old t) (sym is) record {
     counts = counted_both (counts_of old) (counts_of mid) (counts_of (told answer mid)) ⊥ S (answer ≡ said.Failed) ⊥ (answer ≡ said.Failed) (answer ≡ said.Stopped) counts (told_counts answer mid) (λ f. inr f) (λ s. absurd (never s));
     armed = record { next = told_armed answer mid ∙ down.next; stops = λ s. absurd (never s); goes = λ d. λ is_due. due is_due goes };
-    due = λ is_due. absurd (due is_due goes);
     call = told_calls answer mid ∙ call;
   }
 
-  pub turned_off : (answer : DiskAnswer) (new : Tally) → S → answer ≡ said.Stopped → new ≡ mid → TallyTurned answer old new
-  turned_off answer new stops so is = subst (λ (t : Tally). TallyTurned answer old t) (sym is) record {
+  pub turned_off : (answer : DiskAnswer) (new : Tally) → S → (answer ≡ said.Done → ⊥) → (answer ≡ said.Failed → ⊥) → new ≡ mid → TallyTurned answer old new
+  turned_off answer new stops not_done not_failed is = subst (λ (t : Tally). TallyTurned answer old t) (sym is) record {
     counts = record {
       faults_later = counts.faults_later;
       stops_later = counts.stops_later;
-      failed = λ f. absurd (not_both answer so f);
+      failed = λ f. absurd (not_failed f);
       stopped = λ s. counts.stopped stops;
       armed = λ s. counts.armed stops;
       not_rearmed = counts.not_rearmed;
       stays = counts.stays;
       over = λ s. counts.over stops;
     };
-    armed = record { next = down.next; stops = λ s. down.stops stops; goes = λ d. absurd (not_done answer so d) };
-    due = λ is_due. so;
+    armed = record { next = down.next; stops = λ s. down.stops stops; goes = λ d. absurd (not_done d) };
     call = call;
   }
-    where
-      not_both : (a : DiskAnswer) → a ≡ said.Stopped → a ≡ said.Failed → ⊥
-      not_both a s f = absurd (grind (arith, s, f))
 
-      not_done : (a : DiskAnswer) → a ≡ said.Stopped → a ≡ said.Done → ⊥
-      not_done a s d = absurd (grind (arith, s, d))
+pub stopped-not-done : (answer : DiskAnswer) → answer ≡ said.Stopped → answer ≡ said.Done → ⊥
+stopped-not-done answer stopped done = absurd (grind (arith, stopped, done))
+
+pub stopped-not-failed : (answer : DiskAnswer) → answer ≡ said.Stopped → answer ≡ said.Failed → ⊥
+stopped-not-failed answer stopped failed = absurd (grind (arith, stopped, failed))
 
 -- behind a power cut
 pub cut_counts : (answer : DiskAnswer) (t : Tally) → (answer ≡ said.Stopped → ⊥) → Counted (counts_of t) (counts_of (behind_cut answer t)) (answer ≡ said.Failed) (answer ≡ said.Stopped)

@@ -1,3 +1,7 @@
 pub mod Joins
+pub mod Moments
 pub mod Numbers
+pub mod Past
+pub mod PastLaws
+pub mod Shown
 pub mod Tally

@@ -2,7 +2,7 @@
 use Rattle.std.specs.Prelude.{◌≡◌, None}
 use Rattle.ec_base.specs.Outside.{one_more}
 use Rattle.ec_disk.specs.Disk.{Counts}
-use Rattle.ec_disk.specs.Effects.{Counted, CountsDown, IsDue}
+use Rattle.ec_disk.specs.Effects.{Counted, CountsDown}
 use Rattle.ec_disk.specs.declared.disk.DiskAnswer.{DiskAnswer}
 use Rattle.ec_disk.specs.declared.disk.DiskAnswer.TheVariants as said
 use Rattle.ec_mirror.specs.declared.tally.Tally.{Tally}
@@ -28,5 +28,4 @@ behind_cut said.NoMemory t = t
 pub record TallyTurned (answer : DiskAnswer) (old new : Tally) : Type 0 where
   pub counts : Counted (counts_of old) (counts_of new) (answer ≡ said.Failed) (answer ≡ said.Stopped)
   pub armed : CountsDown old.armed new.armed (answer ≡ said.Done) (answer ≡ said.Stopped)
-  pub due : IsDue old.armed → answer ≡ said.Stopped
   pub call : new.calls ≡ one_more old.calls

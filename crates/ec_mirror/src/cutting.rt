@@ -1,29 +1,32 @@
 // What a power cut does with the disks of a mirror.
 ghost use Rattle.std.specs.Prelude.{◌≡◌, ◌<◌, ◌^◌, None, true, false};
+ghost use Rattle.ec_disk.specs.Choices.{cut};
 ghost use Rattle.ec_disk.specs.declared.disk.DiskAnswer.TheVariants as said;
-ghost use Rattle.ec_disk.specs.declared.disk.DiskLen.TheVariants as len;
+ghost use Rattle.ec_half.specs.Contents.{Fewer, AllSynced};
 ghost use Rattle.ec_mirror.specs.declared.kept.Kept.TheVariants as left;
 ghost use Rattle.ec_mirror.specs.Numbers.{Numbered};
+ghost use Rattle.ec_mirror.specs.Shown.{given_by, saved_by, synced_by, shown_of, IsWholeAt, IsSavedAt};
 ghost use Rattle.ec_mirror.specs.Tally.{behind_cut};
 
 use crate::kept::Kept;
 use crate::pair::Pair;
 use crate::parts::Parts;
-use ec_disk::{Choice, CrashDisk, DiskAnswer, DiskLen};
+use ec_disk::{Choice, CrashDisk, DiskAnswer};
 use ec_half::{Joined, MOST, join};
 
 impl<'a, A: CrashDisk, B: CrashDisk> Parts<'a, A, B> {
     /// Cuts the power of the disks that aren't dropped, and makes them alike.
-    ///
-    /// Where a disk has synced more than the mirror told, it can't leave what was synced before: that is refused.
     pub(crate) fn power_cut(&mut self, choice: Choice) -> DiskAnswer
         ensures never_stops { result ≡ said.Stopped → ⊥ }
         ensures tally { self.new.tally ≡ behind_cut result self.old.tally }
+        ensures fewer { A.tells × B.tells → Fewer (shown_of A.view B.view self.old.present) (shown_of A.view B.view self.new.present) }
+        ensures leaves { A.tells × B.tells → result ≡ said.Done → (shown_of A.view B.view self.new.present).gives ≡ cut choice (shown_of A.view B.view self.old.present).gives (shown_of A.view B.view self.old.present).synced }
+        ensures all_synced { A.tells × B.tells → result ≡ said.Done → AllSynced (shown_of A.view B.view self.new.present) }
+        ensures saved { A.tells × B.tells → result ≡ said.Done → (shown_of A.view B.view self.new.present).synced ≡ (shown_of A.view B.view self.new.present).gives }
     {
-        if self.is_dead || (self.is_ahead && choice != Choice::New) {
+        if !self.may_leave(choice) {
             return self.refuse();
         }
-        self.note();
         self.is_sound = false;
         self.is_ahead = true;
         match self.cut(choice) {
@@ -32,22 +35,55 @@ impl<'a, A: CrashDisk, B: CrashDisk> Parts<'a, A, B> {
         }
     }
 
+    // Where a disk has synced more than the mirror told, it can't leave what was synced before.
+    fn may_leave(&self, choice: Choice) -> bool
+        ensures lives { result ≡ true → self.now.is_dead ≡ false }
+        ensures leaves { result ≡ true → A.tells × B.tells → cut choice (given_by A.view B.view self.now.present.pair) (synced_by A.view B.view self.now.present.pair) ≡ cut choice (given_by A.view B.view self.now.present.pair) (saved_by A.view B.view self.now.present.saved.items) }
+    {
+        if self.is_dead {
+            return false;
+        }
+        if self.is_ahead {
+            return choice == Choice::New;
+        }
+        true
+    }
+
     fn cut(&mut self, choice: Choice) -> DiskAnswer
+        requires lives { self.old.is_dead ≡ false }
+        requires ahead { self.old.is_ahead ≡ true }
+        requires stuck { self.old.is_sound ≡ false }
         ensures never_stops { result ≡ said.Stopped → ⊥ }
         ensures failed { result ≡ said.Failed → self.new.present.pair.first.has_failed ≡ false → self.new.present.pair.second.has_failed ≡ true }
         ensures tally { self.new.tally ≡ self.old.tally }
         ensures is_dead { self.new.is_dead ≡ self.old.is_dead }
+        ensures fewer { A.tells × B.tells → Fewer (shown_of A.view B.view self.old.present) (shown_of A.view B.view self.new.present) }
+        ensures leaves { A.tells × B.tells → result ≡ said.Done → (shown_of A.view B.view self.new.present).gives ≡ cut choice (given_by A.view B.view self.old.present.pair) (synced_by A.view B.view self.old.present.pair) }
     {
-        if self.present.pair.kept != Kept::Second {
-            match self.present.pair.first.power_cut(choice) {
-                DiskAnswer::Done => {}
-                fault => return fault,
-            }
+        match self.present.pair.kept {
+            Kept::Both => self.cut_both(choice),
+            Kept::Leaving => DiskAnswer::NoMemory,
+            Kept::First => self.present.pair.first.power_cut(choice),
+            Kept::Second => self.present.pair.second.power_cut(choice),
         }
-        if self.present.pair.kept == Kept::First {
-            return DiskAnswer::Done;
+    }
+
+    fn cut_both(&mut self, choice: Choice) -> DiskAnswer
+        requires kept { self.old.present.pair.kept ≡ left.Both }
+        requires lives { self.old.is_dead ≡ false }
+        requires ahead { self.old.is_ahead ≡ true }
+        requires stuck { self.old.is_sound ≡ false }
+        ensures never_stops { result ≡ said.Stopped → ⊥ }
+        ensures failed { result ≡ said.Failed → self.new.present.pair.first.has_failed ≡ false → self.new.present.pair.second.has_failed ≡ true }
+        ensures tally { self.new.tally ≡ self.old.tally }
+        ensures is_dead { self.new.is_dead ≡ self.old.is_dead }
+        ensures fewer { A.tells × B.tells → Fewer (shown_of A.view B.view self.old.present) (shown_of A.view B.view self.new.present) }
+        ensures leaves { A.tells × B.tells → result ≡ said.Done → (shown_of A.view B.view self.new.present).gives ≡ cut choice (given_by A.view B.view self.old.present.pair) (synced_by A.view B.view self.old.present.pair) }
+    {
+        match self.present.pair.first.power_cut(choice) {
+            DiskAnswer::Done => self.present.pair.second.power_cut(choice),
+            fault => fault,
         }
-        self.present.pair.second.power_cut(choice)
     }
 
     // Raises the generation of the disks that aren't dropped, and makes them alike.
@@ -55,13 +91,17 @@ impl<'a, A: CrashDisk, B: CrashDisk> Parts<'a, A, B> {
         requires lives { self.old.is_dead ≡ false }
         ensures never_stops { result ≡ said.Stopped → ⊥ }
         ensures tally { self.new.tally ≡ behind_cut result self.old.tally }
+        ensures fewer { A.tells × B.tells → Fewer (shown_of A.view B.view self.old.present) (shown_of A.view B.view self.new.present) }
+        ensures gives { A.tells × B.tells → result ≡ said.Done → (shown_of A.view B.view self.new.present).gives ≡ (shown_of A.view B.view self.old.present).gives }
+        ensures all_synced { A.tells × B.tells → result ≡ said.Done → AllSynced (shown_of A.view B.view self.new.present) }
+        ensures saved { A.tells × B.tells → result ≡ said.Done → (shown_of A.view B.view self.new.present).synced ≡ (shown_of A.view B.view self.new.present).gives }
     {
         if self.number >= MOST {
-            return DiskAnswer::NoMemory;
+            return self.refuse();
         }
         match self.present.pair.kept {
             Kept::Both => self.renew_both(),
-            Kept::Leaving => DiskAnswer::NoMemory,
+            Kept::Leaving => self.refuse(),
             Kept::First => self.renew_first(),
             Kept::Second => self.renew_second(),
         }
@@ -74,15 +114,21 @@ impl<'a, A: CrashDisk, B: CrashDisk> Parts<'a, A, B> {
         requires lives { self.old.is_dead ≡ false }
         ensures never_stops { result ≡ said.Stopped → ⊥ }
         ensures tally { self.new.tally ≡ behind_cut result self.old.tally }
+        ensures fewer { A.tells × B.tells → Fewer (shown_of A.view B.view self.old.present) (shown_of A.view B.view self.new.present) }
+        ensures gives { A.tells × B.tells → result ≡ said.Done → (shown_of A.view B.view self.new.present).gives ≡ (shown_of A.view B.view self.old.present).gives }
+        ensures all_synced { A.tells × B.tells → result ≡ said.Done → AllSynced (shown_of A.view B.view self.new.present) }
+        ensures saved { A.tells × B.tells → result ≡ said.Done → (shown_of A.view B.view self.new.present).synced ≡ (shown_of A.view B.view self.new.present).gives }
     {
-        let len = match self.present.pair.first.len() {
-            DiskLen::Len(len) => len,
-            fault => return self.unasked(fault),
+        let len = match self.present.pair.first.known_len() {
+            Ok(len) => len,
+            Err(fault) => return self.cut_short(fault),
         };
-        match self.present.pair.second.len() {
-            DiskLen::Len(other) if other <= len => {}
-            DiskLen::Len(_) => return DiskAnswer::NoMemory,
-            fault => return self.unasked(fault),
+        let other_len = match self.present.pair.second.known_len() {
+            Ok(len) => len,
+            Err(fault) => return self.cut_short(fault),
+        };
+        if other_len > len {
+            return self.refuse();
         }
         self.freeze(len);
         let number = self.number + 1;
@@ -104,10 +150,14 @@ impl<'a, A: CrashDisk, B: CrashDisk> Parts<'a, A, B> {
         requires lives { self.old.is_dead ≡ false }
         ensures never_stops { result ≡ said.Stopped → ⊥ }
         ensures tally { self.new.tally ≡ behind_cut result self.old.tally }
+        ensures fewer { A.tells × B.tells → Fewer (shown_of A.view B.view self.old.present) (shown_of A.view B.view self.new.present) }
+        ensures gives { A.tells × B.tells → result ≡ said.Done → (shown_of A.view B.view self.new.present).gives ≡ (shown_of A.view B.view self.old.present).gives }
+        ensures all_synced { A.tells × B.tells → result ≡ said.Done → AllSynced (shown_of A.view B.view self.new.present) }
+        ensures saved { A.tells × B.tells → result ≡ said.Done → (shown_of A.view B.view self.new.present).synced ≡ (shown_of A.view B.view self.new.present).gives }
     {
-        let len = match self.present.pair.first.len() {
-            DiskLen::Len(len) => len,
-            fault => return self.unasked(fault),
+        let len = match self.present.pair.first.known_len() {
+            Ok(len) => len,
+            Err(fault) => return self.cut_short(fault),
         };
         self.freeze(len);
         let number = self.number + 1;
@@ -123,10 +173,14 @@ impl<'a, A: CrashDisk, B: CrashDisk> Parts<'a, A, B> {
         requires lives { self.old.is_dead ≡ false }
         ensures never_stops { result ≡ said.Stopped → ⊥ }
         ensures tally { self.new.tally ≡ behind_cut result self.old.tally }
+        ensures fewer { A.tells × B.tells → Fewer (shown_of A.view B.view self.old.present) (shown_of A.view B.view self.new.present) }
+        ensures gives { A.tells × B.tells → result ≡ said.Done → (shown_of A.view B.view self.new.present).gives ≡ (shown_of A.view B.view self.old.present).gives }
+        ensures all_synced { A.tells × B.tells → result ≡ said.Done → AllSynced (shown_of A.view B.view self.new.present) }
+        ensures saved { A.tells × B.tells → result ≡ said.Done → (shown_of A.view B.view self.new.present).synced ≡ (shown_of A.view B.view self.new.present).gives }
     {
-        let len = match self.present.pair.second.len() {
-            DiskLen::Len(len) => len,
-            fault => return self.unasked(fault),
+        let len = match self.present.pair.second.known_len() {
+            Ok(len) => len,
+            Err(fault) => return self.cut_short(fault),
         };
         self.freeze(len);
         let number = self.number + 1;
@@ -137,11 +191,18 @@ impl<'a, A: CrashDisk, B: CrashDisk> Parts<'a, A, B> {
     }
 
     fn renewed(&mut self, number: u64) -> DiskAnswer
-        requires dead { self.old.is_dead ≡ true }
+        requires stands { self.old.present.pair.kept ≡ left.Leaving → ⊥ }
         requires numbered { Numbered self.old.present.pair.kept self.old.present.pair.first.generation.number self.old.present.pair.first.most self.old.present.pair.second.generation.number self.old.present.pair.second.most number }
+        requires whole { IsWholeAt A.view B.view (A.tells × B.tells) true self.old.present }
+        requires saved { IsSavedAt A.view B.view (A.tells × B.tells) self.old.present }
         ensures answer { result ≡ said.Done }
         ensures tally { self.new.tally ≡ record self.old.tally { armed = None } }
+        ensures gives { (shown_of A.view B.view self.new.present).gives ≡ given_by A.view B.view self.old.present.pair }
+        ensures all_synced { A.tells × B.tells → AllSynced (shown_of A.view B.view self.new.present) }
+        ensures saved { (shown_of A.view B.view self.new.present).synced ≡ (shown_of A.view B.view self.new.present).gives }
     {
+        self.is_dirty = true;
+        self.is_ahead = true;
         self.thaw(number);
         self.save();
         self.tally.armed = None;
@@ -154,22 +215,11 @@ impl<'a, A: CrashDisk, B: CrashDisk> Parts<'a, A, B> {
         requires not_done { answer ≡ said.Done → ⊥ }
         ensures answer { result ≡ answer }
         ensures tally { self.new.tally ≡ behind_cut answer self.old.tally }
+        ensures present { self.new.present ≡ self.old.present }
     {
         if answer == DiskAnswer::Failed {
             self.fault();
         }
         answer
-    }
-
-    // The answer where a disk doesn't tell its length.
-    fn unasked(&mut self, fault: DiskLen) -> DiskAnswer
-        requires { fault ≡ len.Failed → self.old.present.pair.first.has_failed ≡ false → self.old.present.pair.second.has_failed ≡ true }
-        ensures never_stops { result ≡ said.Stopped → ⊥ }
-        ensures tally { self.new.tally ≡ behind_cut result self.old.tally }
-    {
-        match fault {
-            DiskLen::Failed => self.cut_short(DiskAnswer::Failed),
-            _ => DiskAnswer::NoMemory,
-        }
     }
 }

@@ -4,6 +4,7 @@
 mod calls;
 mod cutting;
 mod kept;
+mod laws;
 mod mirror;
 mod opening;
 mod pair;

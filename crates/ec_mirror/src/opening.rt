@@ -1,11 +1,12 @@
 // Two disks become a mirror.
-ghost use Rattle.std.specs.Prelude.{◌≡◌, ◌⊎◌, ◌≤◌, ◌<◌, ◌+◌, ℕ, Err, IsOk, IfOk, length, true, false};
-ghost use Rattle.ec_half.specs.Contents.{content_behind, HasHeader, Rested};
+ghost use Rattle.std.specs.Prelude.{◌≡◌, ◌⊎◌, ◌≤◌, ◌<◌, ◌+◌, ℕ, [], Some, Err, IsOk, IfOk, length, true, false};
+ghost use Rattle.ec_half.specs.Contents.{content_behind, HasHeader, Rested, AllSynced};
 ghost use Rattle.ec_half.specs.Headers.{IsNoHalf, IsFoundOf, MayBeHalf};
 ghost use Rattle.ec_half.specs.declared.fault.MirrorFault.TheVariants as fault;
 ghost use Rattle.ec_mirror.specs.declared.kept.Kept.TheVariants as left;
 ghost use Rattle.ec_mirror.specs.Joins.{content_of, joined_of, lead, number_of};
 ghost use Rattle.ec_mirror.specs.Numbers.{Numbered};
+ghost use Rattle.ec_mirror.specs.Shown.{first_of, second_of, IsWhole, IsSaved};
 ghost use Rattle.ec_half.specs.OfSlots.Contents.{content, filled};
 
 use crate::kept::Kept;
@@ -13,7 +14,6 @@ use crate::mirror::Mirror;
 use crate::pair::{Moment, Pair};
 use crate::parts::Parts;
 use crate::tally::Tally;
-use ec_base::trace::Trace;
 use ec_disk::{CrashDisk, DiskAnswer, DiskLen};
 use ec_half::{Found, Half, Joined, MOST, MirrorFault, NEW, begin, join, lengthen, look_at};
 
@@ -62,6 +62,8 @@ fn made<'a, A: CrashDisk, B: CrashDisk>(
     second: &'a mut B,
     found_second: Found,
 ) -> Result<Mirror<'a, A, B>, DiskAnswer>
+    requires first { A.tells → IsFoundOf found_first (A.view first.old).gives }
+    requires second { B.tells → IsFoundOf found_second (B.view second.old).gives }
     ensures content { IfOk result (λ mirror. A.tells → B.tells → IsFoundOf found_first (A.view first.old).gives → IsFoundOf found_second (B.view second.old).gives → (lead mirror.parts.present.pair.kept (content_behind (A.view mirror.parts.present.pair.first.disk.now)) (content_behind (B.view mirror.parts.present.pair.second.disk.now))).gives ≡ content_of (A.view first.old).gives (B.view second.old).gives) }
     ensures alike { IfOk result (λ mirror. A.tells → B.tells → IsFoundOf found_first (A.view first.old).gives → IsFoundOf found_second (B.view second.old).gives → mirror.parts.present.pair.kept ≡ left.Both → (content_behind (A.view mirror.parts.present.pair.first.disk.now)).gives ≡ (content_behind (B.view mirror.parts.present.pair.second.disk.now)).gives) }
 {
@@ -79,9 +81,7 @@ fn made<'a, A: CrashDisk, B: CrashDisk>(
     let number = joined(&mut pair, number + 1)?;
     pair.first.disarm();
     pair.second.disarm();
-    Ok(Mirror {
-        parts: opened(pair, number),
-    })
+    Ok(Mirror::new(opened(pair, number)))
 }
 
 // A disk with its generation; an empty one gets a header.
@@ -116,6 +116,8 @@ fn joined<'a, A: CrashDisk, B: CrashDisk>(
     ensures without_second { pair.new.kept ≡ left.First → pair.new.second.has_failed ≡ true }
     ensures content { IfOk result (λ made. A.tells → B.tells → HasHeader (A.view pair.old.first.disk.now) → HasHeader (B.view pair.old.second.disk.now) → (lead pair.new.kept (content_behind (A.view pair.new.first.disk.now)) (content_behind (B.view pair.new.second.disk.now))).gives ≡ joined_of pair.old.first.generation.number pair.old.second.generation.number (content_behind (A.view pair.old.first.disk.now)).gives (content_behind (B.view pair.old.second.disk.now)).gives) }
     ensures alike { IfOk result (λ made. A.tells → B.tells → HasHeader (A.view pair.old.first.disk.now) → HasHeader (B.view pair.old.second.disk.now) → pair.new.kept ≡ left.Both → (content_behind (A.view pair.new.first.disk.now)).gives ≡ (content_behind (B.view pair.new.second.disk.now)).gives) }
+    ensures whole_at { IfOk result (λ made. IsWhole ((A.tells × B.tells) × (HasHeader (A.view pair.old.first.disk.now) × HasHeader (B.view pair.old.second.disk.now))) pair.new.kept (first_of A.view B.view pair.new) (second_of A.view B.view pair.new) pair.new.first.len pair.new.second.len true []) }
+    ensures saved { IfOk result (λ made. IsSaved ((A.tells × B.tells) × (HasHeader (A.view pair.old.first.disk.now) × HasHeader (B.view pair.old.second.disk.now))) pair.new.kept (first_of A.view B.view pair.new) (second_of A.view B.view pair.new)) }
 {
     if pair.second.generation.number <= pair.first.generation.number {
         let joined = join_from(&mut pair.first, &mut pair.second, number)?;
@@ -154,6 +156,12 @@ fn join_from<S: CrashDisk, O: CrashDisk>(
     ensures other_most { IfOk result (λ joined. other.new.most ≤ number) }
     ensures content { IfOk result (λ joined. S.tells → O.tells → HasHeader (S.view source.old.disk.now) → (content_behind (S.view source.new.disk.now)).gives ≡ filled (content_behind (S.view source.old.disk.now)).gives (length (content_behind (O.view other.old.disk.now)).gives)) }
     ensures alike { IfOk result (λ joined. joined ≡ true → S.tells → O.tells → HasHeader (S.view source.old.disk.now) → HasHeader (O.view other.old.disk.now) → (content_behind (O.view other.new.disk.now)).gives ≡ (content_behind (S.view source.new.disk.now)).gives) }
+    ensures source_known { IfOk result (λ joined. (n : ℕ) × (source.new.len ≡ Some n)) }
+    ensures source_synced { IfOk result (λ joined. S.tells → AllSynced (content_behind (S.view source.new.disk.now))) }
+    ensures source_saved { IfOk result (λ joined. S.tells → (content_behind (S.view source.new.disk.now)).synced ≡ (content_behind (S.view source.new.disk.now)).gives) }
+    ensures other_known { IfOk result (λ joined. joined ≡ true → (n : ℕ) × (other.new.len ≡ Some n)) }
+    ensures other_synced { IfOk result (λ joined. joined ≡ true → O.tells → AllSynced (content_behind (O.view other.new.disk.now))) }
+    ensures other_saved { IfOk result (λ joined. joined ≡ true → O.tells → (content_behind (O.view other.new.disk.now)).synced ≡ (content_behind (O.view other.new.disk.now)).gives) }
 {
     let len = len_of(source)?;
     let other_len = len_of(other)?;
@@ -186,14 +194,15 @@ fn opened<'a, A: CrashDisk, B: CrashDisk>(pair: Pair<'a, A, B>, number: u64) -> 
     requires first { pair.first.may_stop ≡ false }
     requires second { pair.second.may_stop ≡ false }
     requires whole { pair.kept ≡ left.Leaving → ⊥ }
+    requires whole_at { IsWhole (A.tells × B.tells) pair.kept (first_of A.view B.view pair) (second_of A.view B.view pair) pair.first.len pair.second.len true [] }
+    requires saved { IsSaved (A.tells × B.tells) pair.kept (first_of A.view B.view pair) (second_of A.view B.view pair) }
     requires numbered { Numbered pair.kept pair.first.generation.number pair.first.most pair.second.generation.number pair.second.most number }
     requires without_first { pair.kept ≡ left.Second → pair.first.has_failed ≡ true }
     requires without_second { pair.kept ≡ left.First → pair.second.has_failed ≡ true }
     ensures { result.present.pair ≡ pair.entry }
 {
-    let saved = Trace::new().and(&pair);
     Parts {
-        present: Moment { pair, saved },
+        present: Moment::new(pair),
         number,
         is_sound: true,
         is_dead: false,
@@ -202,7 +211,5 @@ fn opened<'a, A: CrashDisk, B: CrashDisk>(pair: Pair<'a, A, B>, number: u64) -> 
         failed_alone: false,
         len: 0,
         tally: Tally::new(),
-        past: Trace::new(),
-        frozen: Trace::new(),
     }
 }

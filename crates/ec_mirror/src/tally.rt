@@ -3,10 +3,8 @@
 #[derive(Clone, Copy, Drop)]
 pub(crate) enum Turn {
     Goes,
-    /// It's the one that stops: it's carried out on one disk.
+    /// It stops: a write is carried out on one disk.
     Stops,
-    /// The mirror has stopped before.
-    Stopped,
 }
 
 #[derive(Clone, Copy, Drop)]
@@ -52,11 +50,7 @@ impl Tally {
                     return Turn::Goes;
                 }
                 self.stops = self.stops.saturating_add(1);
-                if left == 1 {
-                    Turn::Stops
-                } else {
-                    Turn::Stopped
-                }
+                Turn::Stops
             }
         }
     }

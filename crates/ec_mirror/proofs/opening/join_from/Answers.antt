@@ -27,3 +27,21 @@ returns-in-Both-clause-alike g c both source other source_long other_long =
     (length-joined _ _ c.in_ok-len.len c.in_ok-other_len.other_len c.max.result known zeros c.max.ensures)
     (fits-joined _ _ c.in_ok-len.len c.in_ok-other_len.other_len c.max.result (c.in_ok-other_len.ensures.len other) other_rests c.max.ensures)
     ∙ sym (c.join.ensures.source_stays (inl c.in-Both.is) source).gives
+
+pub returns-in-Both-clause-source_known : goal.returns-in-Both-clause-source_known
+returns-in-Both-clause-source_known g c = c.join.ensures.source_known (inl c.in-Both.is)
+
+pub returns-in-Both-clause-source_synced : goal.returns-in-Both-clause-source_synced
+returns-in-Both-clause-source_synced g c told = c.join.ensures.source_synced (inl c.in-Both.is) told
+
+pub returns-in-Both-clause-source_saved : goal.returns-in-Both-clause-source_saved
+returns-in-Both-clause-source_saved g c told = c.join.ensures.source_saved (inl c.in-Both.is) told
+
+pub returns-in-SourceAlone-clause-source_known : goal.returns-in-SourceAlone-clause-source_known
+returns-in-SourceAlone-clause-source_known g c = c.join.ensures.source_known (inr c.in-SourceAlone.is)
+
+pub returns-in-SourceAlone-clause-source_synced : goal.returns-in-SourceAlone-clause-source_synced
+returns-in-SourceAlone-clause-source_synced g c told = c.join.ensures.source_synced (inr c.in-SourceAlone.is) told
+
+pub returns-in-SourceAlone-clause-source_saved : goal.returns-in-SourceAlone-clause-source_saved
+returns-in-SourceAlone-clause-source_saved g c told = c.join.ensures.source_saved (inr c.in-SourceAlone.is) told

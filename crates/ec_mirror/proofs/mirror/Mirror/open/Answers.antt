@@ -5,6 +5,12 @@ use Rattle.ec_half.specs.declared.fault.MirrorFault.{MirrorFault}
 use Rattle.ec_mirror.specs.Joins.{content_of}
 use Rattle.ec_mirror.proofs.mirror.Mirror.open.Goals as goal
 
+pub made-requires-clause-first : goal.made-requires-clause-first
+made-requires-clause-first g c told = subst (λ x. IsFoundOf c.in-Ok.found x) (sym (c.look_at.ensures.rests told).gives) (c.in-Ok.ensures.found told)
+
+pub made-requires-clause-second : goal.made-requires-clause-second
+made-requires-clause-second g c told = subst (λ x. IsFoundOf c.in-Ok-look_at.found x) (sym (c.look_at-2.ensures.rests told).gives) (c.in-Ok-look_at.ensures.found told)
+
 abbrev fault_in : {T : Type 0} → Result T MirrorFault → MirrorFault → MirrorFault
 fault_in (Ok x) other = other
 fault_in (Err fault) other = fault
