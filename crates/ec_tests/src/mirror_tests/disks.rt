@@ -97,3 +97,19 @@ pub(crate) fn stop_and_cut<D: CrashDisk>(
         && disk.power_cut(choice) == DiskAnswer::Done
         && begins(disk, left)
 }
+
+/// Writes behind a sync, twice from a stop on. Whether both writes stopped, where a power cut is done that leaves both.
+pub(crate) fn writes_from_a_stop_on<D: CrashDisk>(disk: &mut D) -> Option<bool> {
+    let _ = save(disk, 0, b"first");
+    disk.arm(1);
+    if disk.write_at(0, b"la") != DiskAnswer::Stopped {
+        return None;
+    }
+    if disk.write_at(2, b"ter") != DiskAnswer::Stopped {
+        return None;
+    }
+    if disk.power_cut(Choice::New) != DiskAnswer::Done {
+        return None;
+    }
+    Some(begins(disk, b"later"))
+}

@@ -1,6 +1,7 @@
 // Mirrors over disks in memory: what each disk holds, and what a fault, a stop or a power cut leaves.
 use crate::mirror_tests::disks::{
     Two, WORK, begins, both_hold, new_disk, new_disks, save, stop_and_cut, work,
+    writes_from_a_stop_on,
 };
 use ec_disk::{Choice, CrashDisk, Disk, DiskAnswer, MemDisk};
 use ec_mirror::{Mirror, MirrorFault};
@@ -125,6 +126,34 @@ fn a_stopped_sync_syncs_nothing(rt: HostRuntime) {
     assert!(rt; stops(rt.alloc(), true, Choice::Old, b"first"));
     assert!(rt; stops(rt.alloc(), true, Choice::New, b"later"));
     assert!(rt; stops(rt.alloc(), true, Choice::Torn, b"litsr"));
+}
+
+fn stop_over(two: &mut Two) -> Option<bool> {
+    match Mirror::open(&mut two.first, &mut two.second) {
+        Ok(mut mirror) => writes_from_a_stop_on(&mut mirror),
+        Err(_) => None,
+    }
+}
+
+// Each call of the first disk fails once: writes that stop are carried out, where they answer so.
+fn stopped_writes_are_done(alloc: Global) -> bool {
+    let mut done: u64 = 0;
+    for k in 0..60 {
+        let Some(mut two) = new_disks(alloc, k, 0) else {
+            return false;
+        };
+        match stop_over(&mut two) {
+            Some(true) => done = done.saturating_add(1),
+            Some(false) => return false,
+            None => {}
+        }
+    }
+    done > 20
+}
+
+#[test]
+fn a_write_that_stops_is_carried_out(rt: HostRuntime) {
+    assert!(rt; stopped_writes_are_done(rt.alloc()));
 }
 
 // An opening stops at a call of one of the disks; both are cut, and opened again. Whether it stopped, where the content is there then.
