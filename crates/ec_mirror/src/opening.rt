@@ -1,12 +1,12 @@
 // Two disks become a mirror.
-ghost use Rattle.std.specs.Prelude.{◌≡◌, ◌⊎◌, ◌≤◌, ◌<◌, ◌+◌, ℕ, [], Some, Err, IsOk, IfOk, length, true, false};
+ghost use Rattle.std.specs.Prelude.{◌≡◌, ◌⊎◌, ◌≤◌, ◌<◌, ◌+◌, ℕ, [], ◌∷◌, None, Some, Err, IsOk, IfOk, length, true, false};
 ghost use Rattle.ec_half.specs.Contents.{content_behind, HasHeader, Rested, AllSynced};
 ghost use Rattle.ec_half.specs.Headers.{IsNoHalf, IsFoundOf, MayBeHalf};
 ghost use Rattle.ec_half.specs.declared.fault.MirrorFault.TheVariants as fault;
 ghost use Rattle.ec_mirror.specs.declared.kept.Kept.TheVariants as left;
 ghost use Rattle.ec_mirror.specs.Joins.{content_of, joined_of, lead, number_of};
 ghost use Rattle.ec_mirror.specs.Numbers.{Numbered};
-ghost use Rattle.ec_mirror.specs.Shown.{first_of, second_of, IsWhole, IsSaved};
+ghost use Rattle.ec_mirror.specs.Shown.{first_of, second_of, given_by, shown_of, IsWhole, IsSaved};
 ghost use Rattle.ec_half.specs.OfSlots.Contents.{content, filled};
 
 use crate::kept::Kept;
@@ -28,6 +28,11 @@ impl<'a, A: CrashDisk, B: CrashDisk> Mirror<'a, A, B> {
         ensures both_are_good { IsOk result → (A.tells → MayBeHalf (A.view first.old).gives) × (B.tells → MayBeHalf (B.view second.old).gives) }
         ensures content { IfOk result (λ mirror. A.tells → B.tells → (lead mirror.parts.present.pair.kept (content_behind (A.view mirror.parts.present.pair.first.disk.now)) (content_behind (B.view mirror.parts.present.pair.second.disk.now))).gives ≡ content_of (A.view first.old).gives (B.view second.old).gives) }
         ensures alike { IfOk result (λ mirror. A.tells → B.tells → mirror.parts.present.pair.kept ≡ left.Both → (content_behind (A.view mirror.parts.present.pair.first.disk.now)).gives ≡ (content_behind (B.view mirror.parts.present.pair.second.disk.now)).gives) }
+        ensures gives { IfOk result (λ mirror. A.tells → B.tells → (shown_of A.view B.view mirror.parts.present).gives ≡ content_of (A.view first.old).gives (B.view second.old).gives) }
+        ensures synced { IfOk result (λ mirror. A.tells × B.tells → AllSynced (shown_of A.view B.view mirror.parts.present)) }
+        ensures counts { IfOk result (λ mirror. mirror.parts.tally ≡ record { calls = 0; faults = 0; stops = 0; armed = None }) }
+        ensures first_from { IfOk result (λ mirror. (before : A) × (mirror.parts.present.pair.first.from.items ≡ before ∷ []) × ((A.counts first.old).faults ≤ (A.counts before).faults)) }
+        ensures second_from { IfOk result (λ mirror. (before : B) × (mirror.parts.present.pair.second.from.items ≡ before ∷ []) × ((B.counts second.old).faults ≤ (B.counts before).faults)) }
     {
         let found_first = match look_at(first, 1) {
             Ok(found) => found,
@@ -66,6 +71,11 @@ fn made<'a, A: CrashDisk, B: CrashDisk>(
     requires second { B.tells → IsFoundOf found_second (B.view second.old).gives }
     ensures content { IfOk result (λ mirror. A.tells → B.tells → IsFoundOf found_first (A.view first.old).gives → IsFoundOf found_second (B.view second.old).gives → (lead mirror.parts.present.pair.kept (content_behind (A.view mirror.parts.present.pair.first.disk.now)) (content_behind (B.view mirror.parts.present.pair.second.disk.now))).gives ≡ content_of (A.view first.old).gives (B.view second.old).gives) }
     ensures alike { IfOk result (λ mirror. A.tells → B.tells → IsFoundOf found_first (A.view first.old).gives → IsFoundOf found_second (B.view second.old).gives → mirror.parts.present.pair.kept ≡ left.Both → (content_behind (A.view mirror.parts.present.pair.first.disk.now)).gives ≡ (content_behind (B.view mirror.parts.present.pair.second.disk.now)).gives) }
+    ensures shows { IfOk result (λ mirror. (shown_of A.view B.view mirror.parts.present).gives ≡ given_by A.view B.view mirror.parts.present.pair) }
+    ensures synced { IfOk result (λ mirror. A.tells × B.tells → AllSynced (shown_of A.view B.view mirror.parts.present)) }
+    ensures counts { IfOk result (λ mirror. mirror.parts.tally ≡ record { calls = 0; faults = 0; stops = 0; armed = None }) }
+    ensures first_from { IfOk result (λ mirror. (before : A) × (mirror.parts.present.pair.first.from.items ≡ before ∷ []) × ((A.counts first.old).faults ≤ (A.counts before).faults)) }
+    ensures second_from { IfOk result (λ mirror. (before : B) × (mirror.parts.present.pair.second.from.items ≡ before ∷ []) × ((B.counts second.old).faults ≤ (B.counts before).faults)) }
 {
     let first = begun(first, found_first)?;
     let second = begun(second, found_second)?;
@@ -86,6 +96,8 @@ fn made<'a, A: CrashDisk, B: CrashDisk>(
 
 // A disk with its generation; an empty one gets a header.
 fn begun<'a, D: CrashDisk>(disk: &'a mut D, found: Found) -> Result<Half<'a, D>, DiskAnswer>
+    ensures from { IfOk result (λ half. half.from.items ≡ half.disk.now ∷ []) }
+    ensures later { IfOk result (λ half. (D.counts disk.old).faults ≤ (D.counts half.disk.now).faults) }
     ensures most { IfOk result (λ half. half.most ≡ half.generation.number) }
     ensures number { IfOk result (λ half. D.tells → IsFoundOf found (D.view disk.old).gives → half.generation.number ≡ number_of (D.view disk.old).gives) }
     ensures header { IfOk result (λ half. D.tells → IsFoundOf found (D.view disk.old).gives → HasHeader (D.view half.disk.now)) }
@@ -110,6 +122,8 @@ fn joined<'a, A: CrashDisk, B: CrashDisk>(
     requires second { pair.old.second.most < number }
     ensures first_leads { pair.new.kept ≡ left.First → pair.old.second.generation.number ≤ pair.old.first.generation.number }
     ensures second_leads { pair.new.kept ≡ left.Second → pair.old.first.generation.number < pair.old.second.generation.number }
+    ensures first_from { pair.new.first.from ≡ pair.old.first.from }
+    ensures second_from { pair.new.second.from ≡ pair.old.second.from }
     ensures numbered { IfOk result (λ made. Numbered pair.new.kept pair.new.first.generation.number pair.new.first.most pair.new.second.generation.number pair.new.second.most made) }
     ensures whole { pair.new.kept ≡ left.Leaving → ⊥ }
     ensures without_first { pair.new.kept ≡ left.Second → pair.new.first.has_failed ≡ true }
@@ -146,6 +160,8 @@ fn join_from<S: CrashDisk, O: CrashDisk>(
 ) -> Result<bool, DiskAnswer>
     requires source { source.old.most < number }
     requires other { other.old.most < number }
+    ensures source_from { source.new.from ≡ source.old.from }
+    ensures other_from { other.new.from ≡ other.old.from }
     ensures alone { IfOk result (λ joined. joined ≡ false → other.new.has_failed ≡ true) }
     ensures raised { IfOk result (λ joined. joined ≡ true → source.new.generation.number ≡ number) }
     ensures raised_alone { IfOk result (λ joined. joined ≡ false → source.new.generation.number ≡ number + 1) }
@@ -177,6 +193,7 @@ fn join_from<S: CrashDisk, O: CrashDisk>(
 }
 
 fn len_of<D: CrashDisk>(half: &mut Half<'_, D>) -> Result<u64, DiskAnswer>
+    ensures from { half.new.from ≡ half.old.from }
     ensures generation { half.new.generation ≡ half.old.generation }
     ensures most { half.new.most ≡ half.old.most }
     ensures len { IfOk result (λ len. D.tells → len ≡ length (content_behind (D.view half.old.disk.now)).gives) }
@@ -199,7 +216,10 @@ fn opened<'a, A: CrashDisk, B: CrashDisk>(pair: Pair<'a, A, B>, number: u64) -> 
     requires numbered { Numbered pair.kept pair.first.generation.number pair.first.most pair.second.generation.number pair.second.most number }
     requires without_first { pair.kept ≡ left.Second → pair.first.has_failed ≡ true }
     requires without_second { pair.kept ≡ left.First → pair.second.has_failed ≡ true }
-    ensures { result.present.pair ≡ pair.entry }
+    ensures pair { result.present.pair ≡ pair.entry }
+    ensures shows { (shown_of A.view B.view result.present).gives ≡ given_by A.view B.view result.present.pair }
+    ensures synced { A.tells × B.tells → AllSynced (shown_of A.view B.view result.present) }
+    ensures counts { result.tally ≡ record { calls = 0; faults = 0; stops = 0; armed = None } }
 {
     Parts {
         present: Moment::new(pair),

@@ -1,4 +1,4 @@
-use Rattle.std.proofs.Common.{◌∙◌, refl, ap, sym, subst}
+use Rattle.std.proofs.Common.{◌∙◌, refl, ap, arith, sym, subst}
 use Rattle.std.specs.Prelude.{Result, Ok, Err}
 use Rattle.ec_half.specs.Headers.{IsFoundOf}
 use Rattle.ec_half.specs.declared.fault.MirrorFault.{MirrorFault}
@@ -28,6 +28,13 @@ returns-in-Ok-made-clause-content g c first second =
     c.in-Ok-made.ensures.content first second (subst (λ x. IsFoundOf c.in-Ok.found x) (sym first_rests) (c.in-Ok.ensures.found first)) (subst (λ x. IsFoundOf c.in-Ok-look_at.found x) (sym second_rests) (c.in-Ok-look_at.ensures.found second))
     ∙ ap (λ x. content_of x (g.B.Disk.view c.look_at-2.new.disk).gives) first_rests ∙ ap (λ y. content_of (g.A.Disk.view c.args.first.now).gives y) second_rests
 
+pub returns-in-Ok-made-clause-gives : goal.returns-in-Ok-made-clause-gives
+returns-in-Ok-made-clause-gives g c first second =
+    let first_rests = (c.look_at.ensures.rests first).gives in
+    let second_rests = (c.look_at-2.ensures.rests second).gives in
+    c.in-Ok-made.ensures.shows ∙ c.in-Ok-made.ensures.content first second (subst (λ x. IsFoundOf c.in-Ok.found x) (sym first_rests) (c.in-Ok.ensures.found first)) (subst (λ x. IsFoundOf c.in-Ok-look_at.found x) (sym second_rests) (c.in-Ok-look_at.ensures.found second))
+    ∙ ap (λ x. content_of x (g.B.Disk.view c.look_at-2.new.disk).gives) first_rests ∙ ap (λ y. content_of (g.A.Disk.view c.args.first.now).gives y) second_rests
+
 pub returns-in-Ok-made-clause-alike : goal.returns-in-Ok-made-clause-alike
 returns-in-Ok-made-clause-alike g c first second =
     c.in-Ok-made.ensures.alike first second (subst (λ x. IsFoundOf c.in-Ok.found x) (sym (c.look_at.ensures.rests first).gives) (c.in-Ok.ensures.found first))
@@ -35,3 +42,13 @@ returns-in-Ok-made-clause-alike g c first second =
 
 pub returns-in-Ok-made-clause-both_are_good : goal.returns-in-Ok-made-clause-both_are_good
 returns-in-Ok-made-clause-both_are_good g c is = (λ tells. c.in-Ok.ensures.ok refl tells, λ tells. c.in-Ok-look_at.ensures.ok refl tells)
+
+pub returns-in-Ok-made-clause-first_from : goal.returns-in-Ok-made-clause-first_from
+returns-in-Ok-made-clause-first_from g c =
+    let from = c.in-Ok-made.ensures.first_from in
+    (from.0, from.1, omega (arith, c.look_at.ensures.counts.faults_later, from.2))
+
+pub returns-in-Ok-made-clause-second_from : goal.returns-in-Ok-made-clause-second_from
+returns-in-Ok-made-clause-second_from g c =
+    let from = c.in-Ok-made.ensures.second_from in
+    (from.0, from.1, omega (arith, c.look_at-2.ensures.counts.faults_later, from.2))
