@@ -1,0 +1,10 @@
+//! What is noted of clocks and leases beside a world: the clocks, the Leases issued, the greatest moments that the server noted and clerks keep, and
+//! the calls that are queued.
+#![tactic(auto)]
+
+mod book;
+mod lease;
+mod queues;
+
+pub use book::Book;
+pub use lease::{LAST_TICK, Lease, MOST_LENGTH};

@@ -1,0 +1,76 @@
+// Queued calls.
+ghost use Rattle.std.specs.Prelude.{◌≡◌, ◌++◌, ◌∷◌, [], OnOk};
+ghost use Rattle.ec_base.specs.Tables.{at_or, put, without};
+ghost use Rattle.ec_protocol.specs.declared.world.World.{World};
+ghost use Rattle.ec_lease_machine.specs.Leases as leases;
+ghost use Rattle.ec_lease_book.specs.Book.{with_book};
+
+use crate::book::Book;
+use ec_base::{ClerkId, List, NoMemory, SortedMap};
+use ec_plain::Call;
+use std::alloc::Global;
+
+impl Book {
+    /// One more call of the clerk is queued.
+    pub fn queue(
+        &mut self,
+        alloc: Global,
+        clerk: ClerkId,
+        line: u32,
+        call: Call,
+    ) -> Result<(), NoMemory>
+        ensures { OnOk result (self.new ≡ record self.old { queued = put clerk (at_or [] clerk self.old.queued ++ (line, call) ∷ []) self.old.queued }) }
+    {
+        add_to(alloc, &mut self.queued, clerk, (line, call))
+    }
+
+    /// Takes the clerk's queued calls out.
+    pub fn take_queue(&mut self, alloc: Global, clerk: ClerkId) -> Vec<(u32, Call)>
+        ensures queue { result.items ≡ at_or [] clerk self.old.queued }
+        ensures left { self.new ≡ record self.old { queued = without clerk self.old.queued } }
+    {
+        take_list(alloc, &mut self.queued, clerk)
+    }
+
+    /// The clerk's queued calls are these.
+    pub fn set_queue(&mut self, clerk: ClerkId, queue: Vec<(u32, Call)>) -> Result<(), NoMemory>
+        ensures { OnOk result ((w : World) → leases.with_queue clerk queue.items (with_book self.old w) ≡ with_book self.new w) }
+    {
+        if queue.is_empty() {
+            drop(queue);
+            drop(self.queued.remove(&clerk));
+            return Ok(());
+        }
+        self.queued.insert(clerk, List::of(queue))
+    }
+}
+
+// Puts one more behind the clerk's list.
+pub(crate) fn add_to<V: Drop>(
+    alloc: Global,
+    lists: &mut SortedMap<ClerkId, List<V>>,
+    clerk: ClerkId,
+    item: V,
+) -> Result<(), NoMemory>
+    ensures { OnOk result (lists.new ≡ put clerk (at_or [] clerk lists.old ++ item ∷ []) lists.old) }
+{
+    let _rising = lists.items();
+    let mut own = take_list(alloc, lists, clerk);
+    own.push(item)?;
+    lists.insert(clerk, List::of(own))
+}
+
+// Takes the clerk's list out.
+fn take_list<V: Drop>(
+    alloc: Global,
+    lists: &mut SortedMap<ClerkId, List<V>>,
+    clerk: ClerkId,
+) -> Vec<V>
+    ensures own { result.items ≡ at_or [] clerk lists.old }
+    ensures left { lists.new ≡ without clerk lists.old }
+{
+    match lists.remove(&clerk) {
+        Some(own) => own.into_vec(),
+        None => Vec::new(alloc),
+    }
+}
