@@ -1,0 +1,5 @@
+pub mod Clocks
+pub mod Comments
+pub mod Heads
+pub mod Numbers
+pub mod Outside
