@@ -10,7 +10,8 @@ use Rattle.std.proofs.lemmas.Map.Lookups.{exact_unsigned}
 use Rattle.ec_base.specs.Tables.{Table, at_or, put, without}
 use Rattle.ec_base.proofs.Numbers.{differ}
 use Rattle.ec_base.specs.SortedLaws.{first, second, kept_below, below_first, below_tied}
-use Rattle.ec_lease_book.specs.Book.{Booked}
+use Rattle.ec_lease_book.specs.Book.{Booked, with_book}
+use Rattle.ec_protocol.specs.declared.world.World.{World}
 use Rattle.ec_lease_machine.specs.Leases.{nth, with_queue}
 use Rattle.ec_plain.specs.declared.call.Call.{Call}
 use Rattle.ec_lease_machine.specs.declared.world.LeaseWorld.{LeaseWorld}
@@ -35,6 +36,15 @@ put-without k v (e ∷ es) h =
           let same = exact_unsigned k e.0 p in
           rw p (ap (put k v) (kept_below nat_cmp k es below) ∙ put_below k v es below ∙ ap (λ x. (x, v) ∷ es) same)
       | Greater ↦ λ p. rw (p, p) (ap (λ xs. e ∷ xs) (put-without k v es (second _ _ h)))
+    ] refl
+
+without-without : {X : Type 0} (k : ℕ) (es : Table X) → without k (without k es) ≡ without k es
+without-without k [] = refl
+without-without k (e ∷ es) =
+    elim (nat_cmp k e.0) as (λ r. nat_cmp k e.0 ≡ r → without k (without k (e ∷ es)) ≡ without k (e ∷ es)) [
+      | Less ↦ λ p. rw (p, p) (ap (λ xs. e ∷ xs) (without-without k es))
+      | Equal ↦ λ p. rw p (without-without k es)
+      | Greater ↦ λ p. rw (p, p) (ap (λ xs. e ∷ xs) (without-without k es))
     ] refl
 
 -- one more
@@ -66,8 +76,18 @@ pub queue_left : (c : ℕ) (qs : List (ℕ × Call)) (x : LeaseWorld) → (lengt
 queue_left c [] x e = let f : true ≡ false = e in absurd cc
 queue_left c (q ∷ qs) x e = refl
 
+-- a book with other queues
 abbrev pub queued_in : Booked → Table (List (ℕ × Call)) → Booked
 queued_in b q = record b { queued = q }
+
+-- calls that are put back once all of the clerk's were taken out
+
+back_in : (c : ℕ) (b : Booked) (w : World) → T (is_sorted nat_cmp b.queued) → (qs : List (ℕ × Call)) → with_queue c qs (with_book (queued_in b (without c b.queued)) w) ≡ with_queue c qs (with_book b w)
+back_in c b w h [] = ap (λ t. with_book (queued_in b t) w) (without-without c b.queued)
+back_in c b w h (q ∷ qs) = ap (λ t. with_book (queued_in b t) w) (put-without c (q ∷ qs) b.queued h)
+
+pub back : (c : ℕ) (old new : Booked) → new ≡ queued_in old (without c old.queued) → T (is_sorted nat_cmp old.queued) → (qs : List (ℕ × Call)) (w : World) → with_queue c qs (with_book new w) ≡ with_queue c qs (with_book old w)
+back c old new is h qs w = ap (λ b. with_queue c qs (with_book b w)) is ∙ back_in c old w h qs
 
 abbrev pub issued_in : Booked → Table (List Lease) → Booked
 issued_in b xs = record b { issued = xs }

@@ -1,6 +1,9 @@
 // Queued calls.
-ghost use Rattle.std.specs.Prelude.{◌≡◌, ◌++◌, ◌∷◌, [], OnOk};
+ghost use Rattle.std.specs.Prelude.{◌≡◌, ◌++◌, ◌∷◌, [], ℕ, T, List as Listed, OnOk};
+ghost use Rattle.std.specs.FinMap.Entries.{is_sorted};
+ghost use Rattle.std.specs.Ordering.{nat_cmp};
 ghost use Rattle.ec_base.specs.Tables.{at_or, put, without};
+ghost use Rattle.ec_plain.specs.declared.call.Call.{Call as Asked};
 ghost use Rattle.ec_protocol.specs.declared.world.World.{World};
 ghost use Rattle.ec_lease_machine.specs.Leases as leases;
 ghost use Rattle.ec_lease_book.specs.Book.{with_book};
@@ -28,6 +31,8 @@ impl Book {
     pub fn take_queue(&mut self, alloc: Global, clerk: ClerkId) -> Vec<(u32, Call)>
         ensures queue { result.items ≡ at_or [] clerk self.old.queued }
         ensures left { self.new ≡ record self.old { queued = without clerk self.old.queued } }
+        // what is put back then is put as if none had been taken
+        ensures back { (queue : Listed (ℕ × Asked)) (w : World) → leases.with_queue clerk queue (with_book self.new w) ≡ leases.with_queue clerk queue (with_book self.old w) }
     {
         take_list(alloc, &mut self.queued, clerk)
     }
@@ -54,7 +59,6 @@ pub(crate) fn add_to<V: Drop>(
 ) -> Result<(), NoMemory>
     ensures { OnOk result (lists.new ≡ put clerk (at_or [] clerk lists.old ++ item ∷ []) lists.old) }
 {
-    let _rising = lists.items();
     let mut own = take_list(alloc, lists, clerk);
     own.push(item)?;
     lists.insert(clerk, List::of(own))
@@ -68,7 +72,9 @@ fn take_list<V: Drop>(
 ) -> Vec<V>
     ensures own { result.items ≡ at_or [] clerk lists.old }
     ensures left { lists.new ≡ without clerk lists.old }
+    ensures sorted { T (is_sorted nat_cmp lists.old) }
 {
+    let _rising = lists.items();
     match lists.remove(&clerk) {
         Some(own) => own.into_vec(),
         None => Vec::new(alloc),
