@@ -3,6 +3,8 @@
 Usage: examples/readme.py PROGRAM    the blocks ```sh, all by one shell, with this program where README says that the proved one lies
        examples/readme.py --try      the block ```sh try, which makes an unproved program (some minutes), in the repository itself
 
+The block ```sh look has to show the drill's script and the transcript that README reads.
+
 The shell has to end with status 0. The transcript that README reads line by line has to be the one that the drill wrote, the answers that README
 quotes of the mounts have to come, the next drill has to find an empty file, and the pictures that README shows have to be those of the examples."""
 import os
@@ -51,16 +53,28 @@ def pictures():
             yield f"docs/pictures/{name}.svg isn't what examples/chart.py draws of examples/{name}.expected"
 
 
+def transcript():
+    """The transcript that README reads line by line."""
+    return [re.split(r" {3,}", line)[0] for line in blocks("text")[0].splitlines()]
+
+
+def recorded():
+    """What is wrong with the drill that README shows without a program."""
+    lines, failed = run("\n".join(blocks("sh look")), ROOT, WAIT)
+    wanted = [read("examples/loss.script").splitlines(), transcript()]
+    return failed + [f"README's first command doesn't show {part}" for part in wanted if "\n".join(part) not in "\n".join(lines)]
+
+
 def with_program(program):
     """What is wrong with the commands, run by this program."""
-    failed = list(pictures())
+    failed = list(pictures()) + recorded()
     with tempfile.TemporaryDirectory() as folder:
         os.makedirs(os.path.join(folder, os.path.dirname(PROGRAM)))
         os.symlink(os.path.realpath(program), os.path.join(folder, PROGRAM))
         os.symlink(os.path.join(ROOT, "examples"), os.path.join(folder, "examples"))
         lines, why = run("\n".join(blocks("sh")), folder, WAIT)
     failed += why
-    shown = [re.split(r" {3,}", line)[0] for line in blocks("text")[0].splitlines()]
+    shown = transcript()
     if lines[: len(shown)] != shown:
         failed.append(f"the drill wrote {lines[:len(shown)]} and README shows {shown}")
     if lines[len(shown) : len(shown) + 1] != ["legal"]:
