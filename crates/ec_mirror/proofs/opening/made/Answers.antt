@@ -45,14 +45,14 @@ returns-clause-counts g c = ap (λ p. p.tally) c.new.ensures ∙ c.opened.ensure
 
 pub returns-clause-first_from : goal.returns-clause-first_from
 returns-clause-first_from g c = (
-    c.in_ok-first.first.disk.now,
-    ap (λ p. p.present.pair.first.from.items) c.new.ensures ∙ ap (λ p. p.first.from.items) c.opened.ensures.pair ∙ ap (λ f. f.items) (c.disarm.ensures.from ∙ c.joined.ensures.first_from) ∙ c.in_ok-first.ensures.from,
-    c.in_ok-first.ensures.later,
+  c.in_ok-first.first.disk.now,
+  ap (λ p. p.present.pair.first.from.items) c.new.ensures ∙ ap (λ p. p.first.from.items) c.opened.ensures.pair ∙ ap (λ f. f.items) (c.disarm.ensures.from ∙ c.joined.ensures.first_from) ∙ c.in_ok-first.ensures.from,
+  c.in_ok-first.ensures.later,
 )
 
 pub returns-clause-second_from : goal.returns-clause-second_from
 returns-clause-second_from g c = (
-    c.in_ok-second.second.disk.now,
-    ap (λ p. p.present.pair.second.from.items) c.new.ensures ∙ ap (λ p. p.second.from.items) c.opened.ensures.pair ∙ ap (λ f. f.items) (c.disarm-2.ensures.from ∙ c.joined.ensures.second_from) ∙ c.in_ok-second.ensures.from,
-    c.in_ok-second.ensures.later,
+  c.in_ok-second.second.disk.now,
+  ap (λ p. p.present.pair.second.from.items) c.new.ensures ∙ ap (λ p. p.second.from.items) c.opened.ensures.pair ∙ ap (λ f. f.items) (c.disarm-2.ensures.from ∙ c.joined.ensures.second_from) ∙ c.in_ok-second.ensures.from,
+  c.in_ok-second.ensures.later,
 )
