@@ -5,7 +5,7 @@ use Rattle.ec_wire.specs.Codes.{said}
 use Rattle.ec_wire.specs.declared.fault.WireFault.{WireFault}
 use Rattle.ec_link.specs.Links.{Heard, body, long, added}
 use Rattle.ec_servernode.specs.declared.step.Deed.{Deed}
-use Rattle.ec_servernode.specs.declared.step.Deed.TheVariants.{Took, Gave, Refused, Halted, Ended, HaltedEnd}
+use Rattle.ec_servernode.specs.declared.step.Deed.TheVariants.{Ended, HaltedEnd}
 use Rattle.ec_servernode.specs.declared.step.Step.{Step}
 use Rattle.ec_servernode.specs.Bodies.{heard_by, said_by}
 use Rattle.ec_servernode.specs.Run.{caller_by}
@@ -31,12 +31,9 @@ pub record WasReplaced (pass : ℕ) (run : List Step) : Type 0 where
 
 -- no session was ended by these steps but by what a link said
 abbrev pub IsNoEnd : Deed → Type 0
-IsNoEnd (Took c bytes m served) = Unit {0}
-IsNoEnd (Gave c m) = Unit {0}
-IsNoEnd (Refused m) = Unit {0}
-IsNoEnd (Halted c bytes m h) = Unit {0}
 IsNoEnd (Ended c served) = ⊥
 IsNoEnd (HaltedEnd c h) = ⊥
+IsNoEnd _ = Unit {0}
 
 abbrev pub HasNoEnd : List Step → Type 0
 HasNoEnd [] = Unit {0}

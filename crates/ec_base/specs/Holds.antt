@@ -5,13 +5,11 @@ use Rattle.ec_base.specs.declared.ids.Hold.TheVariants.{Free, Read, Write}
 
 abbrev pub is_free : Hold → Bool
 is_free Free = true
-is_free Read = false
-is_free Write = false
+is_free _ = false
 
 abbrev pub is_write : Hold → Bool
-is_write Free = false
-is_write Read = false
 is_write Write = true
+is_write _ = false
 
 abbrev pub rank : Hold → ℕ
 rank Free = 0

@@ -17,10 +17,9 @@ is_bad byte = is_slash byte || eqb byte 0
 
 -- `.` or `..`
 abbrev pub is_dots : List ℕ → Bool
-is_dots [] = false
 is_dots (a ∷ []) = eqb a 46
 is_dots (a ∷ b ∷ []) = eqb a 46 && eqb b 46
-is_dots (a ∷ b ∷ c ∷ bytes) = false
+is_dots _ = false
 
 abbrev pub fault_in_text : List ℕ → Option ℕ → Option NameFault
 fault_in_text bytes (Some at) = Some (fault.BadByte at)
@@ -35,9 +34,8 @@ IsName bytes = name_fault bytes ≡ None
 
 -- the names that the bytes after the first one hold: no name where there is none, and else the parts between the slashes
 abbrev pub path_names : List ℕ → List (List ℕ)
-path_names [] = []
-path_names (slash ∷ []) = []
 path_names (slash ∷ byte ∷ bytes) = slice_split is_slash (byte ∷ bytes)
+path_names _ = []
 
 abbrev pub or_later : ℕ → Option NameFault → Option PathFault → Option PathFault
 or_later place (Some f) later = Some (unread.Name place f)

@@ -12,8 +12,7 @@ abbrev pub AreReplied : ℕ → List Step → ℕ → List Call → List Reply �
 AreReplied pass steps least [] [] = Unit {0}
 AreReplied pass steps least (call ∷ calls) (reply ∷ replies) = (number : ℕ) × (at : ℕ) × (end : ℕ) × (least ≤ at) × (at ≤ end) × BeganAt pass steps at call number × AnsweredAt steps end number reply
     × AreReplied pass steps (end + 1) calls replies
-AreReplied pass steps least [] (reply ∷ replies) = ⊥
-AreReplied pass steps least (call ∷ calls) [] = ⊥
+AreReplied pass steps least _ _ = ⊥
 
 -- The pass has begun a front of these calls behind the list before, each once and in order, beside those that it had begun. They have these answers, but
 -- the one begun last may have none.

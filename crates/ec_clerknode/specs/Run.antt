@@ -34,13 +34,7 @@ done c (Picked asked) = picked asked.value c
 done c Parted = parted c
 done c Resent = resent c
 done c Linked = linked c
-done c Net = still c
-done c (Peer bytes fault) = still c
-done c (Long n) = still c
-done c (NotBegun call counter) = still c
-done c (NotTaken bytes msg counter) = still c
-done c (NotPicked asked counter) = still c
-done c Broke = still c
+done c _ = still c
 
 abbrev pub after : Clerk → Deed → Clerk
 after c deed = (done c deed).clerk
@@ -84,37 +78,18 @@ IsRun c (s ∷ ss) = IsStep c s × IsRun (after c s.deed) ss
 -- the calls begun
 abbrev pub call_of : Deed → List Call
 call_of (Began call number) = call.value ∷ []
-call_of (Took bytes msg) = []
-call_of (Picked asked) = []
-call_of Parted = []
-call_of Resent = []
-call_of Linked = []
-call_of Net = []
-call_of (Peer bytes fault) = []
-call_of (Long n) = []
-call_of (NotBegun call counter) = []
-call_of (NotTaken bytes msg counter) = []
-call_of (NotPicked asked counter) = []
-call_of Broke = []
+call_of _ = []
 
 abbrev pub calls : List Step → List Call
 calls = each (λ s. call_of s.deed)
 
 -- what the link gave for a step
 abbrev pub heard_of : Deed → List Heard
-heard_of (Began call number) = []
 heard_of (Took bytes msg) = body bytes.value.items ∷ []
-heard_of (Picked asked) = []
-heard_of Parted = []
-heard_of Resent = []
-heard_of Linked = []
-heard_of Net = []
 heard_of (Peer bytes fault) = body bytes.value.items ∷ []
 heard_of (Long n) = long n ∷ []
-heard_of (NotBegun call counter) = []
 heard_of (NotTaken bytes msg counter) = body bytes.value.items ∷ []
-heard_of (NotPicked asked counter) = []
-heard_of Broke = []
+heard_of _ = []
 
 abbrev pub heard_by : List Step → List Heard
 heard_by = each (λ s. heard_of s.deed)
@@ -131,9 +106,8 @@ told_in s = told s.outs.value.items
 
 -- the sending went well, or the link failed
 abbrev pub IsSaid : Sent → Type 0
-IsSaid sent.Done = Unit {0}
-IsSaid sent.Failed = Unit {0}
 IsSaid sent.NoMemory = ⊥
+IsSaid _ = Unit {0}
 
 -- memory was wanting in none of these steps
 abbrev pub AreSaid : List Step → Type 0
@@ -159,24 +133,17 @@ told_by = each told_in
 
 -- the faults of which a step is the cause
 abbrev pub mark_of_deed : Deed → List NodeFault
-mark_of_deed (Began call number) = []
-mark_of_deed (Took bytes msg) = []
-mark_of_deed (Picked asked) = []
-mark_of_deed Parted = []
-mark_of_deed Resent = []
-mark_of_deed Linked = []
 mark_of_deed Net = fault.Net ∷ []
 mark_of_deed (Peer bytes place) = fault.Peer place ∷ []
 mark_of_deed (Long n) = fault.Long n ∷ []
 mark_of_deed (NotBegun call counter) = fault.Spent counter ∷ []
 mark_of_deed (NotTaken bytes msg counter) = fault.Spent counter ∷ []
 mark_of_deed (NotPicked asked counter) = fault.Spent counter ∷ []
-mark_of_deed Broke = []
+mark_of_deed _ = []
 
 abbrev pub mark_of_end : Sent → List NodeFault
-mark_of_end sent.Done = []
 mark_of_end sent.Failed = fault.Net ∷ []
-mark_of_end sent.NoMemory = []
+mark_of_end _ = []
 
 abbrev pub marks : List Step → List NodeFault
 marks = each (λ s. mark_of_deed s.deed ++ mark_of_end s.end)

@@ -8,7 +8,7 @@ use Rattle.ec_protocol.specs.declared.script.Line.{Line}
 use Rattle.ec_protocol.specs.declared.script.Line.TheVariants as line
 use Rattle.ec_lawful.specs.Headline.{IsGreatest}
 use Rattle.ec_quiet.specs.Settling.{IsSettled}
-use Rattle.ec_machine_laws.specs.Answers.{answers_in, asked_from, plain_answers}
+use Rattle.ec_machine_laws.specs.Answers.{answers_in, answers_to, asked_from, none_yet}
 
 -- The line makes no fault: it's a comment, a call or a push.
 abbrev pub IsFaultless : Line → Type 0
@@ -36,4 +36,4 @@ pub record IsComplete (v : Images) (lines : List Line) (shown : List Shown) (sta
   pub ids : List ℕ
   pub rising : AreRising top ids
   pub one_each : length ids ≡ length (asked_from 1 lines)
-  pub answers : answers_in shown ≡ plain_answers v ids lines
+  pub answers : answers_in shown ≡ answers_to v none_yet ids (asked_from 1 lines)

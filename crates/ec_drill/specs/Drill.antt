@@ -144,10 +144,6 @@ pub record RefusedInPart (w : Outside) : Type 0 where
   pub part : (last ≡ []) ⊎ IsCutFront (shown_text line) last
   pub bytes : Appends w.held w.held_after last
 
--- the line that says why nothing was carried out was written
-abbrev pub TellsLimit : Outside → Type 0
-TellsLimit w = (name : LimitName) × (n : ℕ) × IsOver w name n × IsDiskUntouched w × Appends w.held w.held_after (shown_text (Limit name n))
-
 -- a run that was cut off between two lines, or before the first
 abbrev pub IsCutClean : ℕ → Outside → Type 0
 IsCutClean most w = RanInPart most w [] ⊎ IsSilent w
@@ -166,5 +162,5 @@ Drilled most status.SinkFault w = Rose w.writes w.writes_after × IsCut most w
 Drilled most status.DiskFault w = Rose w.counts.faults w.counts_after.faults × IsCutClean most w
 Drilled most status.BadDisk w = (place : ℕ) × (reads : List Read) × IsGiven w reads × IsBad w place × Appends w.held w.held_after (shown_text (DiskBad place))
 Drilled most status.NoMemory w = IsCut most w ⊎ IsSilent w
-Drilled most status.Limit w = TellsLimit w ⊎ RanWhole most 11 w
+Drilled most status.Limit w = ((name : LimitName) × (n : ℕ) × IsOver w name n × IsDiskUntouched w × Appends w.held w.held_after (shown_text (Limit name n))) ⊎ RanWhole most 11 w
 Drilled most status.Spent w = RanWhole most 15 w

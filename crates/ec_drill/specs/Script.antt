@@ -38,6 +38,5 @@ IsRead bytes (unfit column) = IsFault bytes (fault.At column)
 
 abbrev pub AreRead : List (List ℕ) → List Read → Type 0
 AreRead [] [] = Unit {0}
-AreRead [] (r ∷ rs) = ⊥
-AreRead (bytes ∷ rest) [] = ⊥
 AreRead (bytes ∷ rest) (r ∷ rs) = IsRead bytes r × AreRead rest rs
+AreRead _ _ = ⊥

@@ -10,6 +10,7 @@ use Rattle.ec_drill.specs.Drill.{Outside, IsDiskUntouched}
 use Rattle.ec_drill.specs.declared.status.Status as drilled
 use Rattle.ec_drill.specs.declared.status.Status.TheVariants as drill
 use Rattle.ec_echo.specs.Made.{made_lines}
+use Rattle.ec_echo.specs.Statuses.{of_drill}
 use Rattle.ec_echo.specs.Written.{WroteWith, WroteNothing}
 use Rattle.ec_echo.specs.declared.soaking.Sort.{Sort}
 use Rattle.ec_echo.specs.declared.soaking.Sort.TheVariants as sort
@@ -29,19 +30,16 @@ IsSort bytes s = ((line : Shown) × IsShown bytes line × (s ≡ sort_of line)) 
 
 abbrev pub AreSorts : List (List ℕ) → List Sort → Type 0
 AreSorts [] [] = Unit {0}
-AreSorts [] (s ∷ ss) = ⊥
-AreSorts (bytes ∷ rest) [] = ⊥
 AreSorts (bytes ∷ rest) (s ∷ ss) = IsSort bytes s × AreSorts rest ss
+AreSorts _ _ = ⊥
 
 abbrev pub answers_in : Sort → ℕ
 answers_in sort.Answer = 1
-answers_in sort.Unsettled = 0
-answers_in sort.Other = 0
+answers_in _ = 0
 
 abbrev pub unsettled_in : Sort → ℕ
-unsettled_in sort.Answer = 0
 unsettled_in sort.Unsettled = 1
-unsettled_in sort.Other = 0
+unsettled_in _ = 0
 
 -- how many calls were answered, each of which is once, and how many lines didn't settle
 abbrev pub answers : List Sort → ℕ
@@ -90,11 +88,7 @@ Told number drill.BadLine transcript result held now before later = TellsLast tr
 Told number drill.BadDisk transcript result held now before later = TellsLast transcript status.BadDisk result held now before later
 Told number drill.Limit transcript result held now before later = TellsLast transcript status.Limit result held now before later
 Told number drill.Spent transcript result held now before later = TellsLast transcript status.Spent result held now before later
-Told number drill.Usage transcript result held now before later = TellsNothing status.Usage result held now
-Told number drill.SourceFault transcript result held now before later = TellsNothing status.SourceFault result held now
-Told number drill.SinkFault transcript result held now before later = TellsNothing status.SinkFault result held now
-Told number drill.DiskFault transcript result held now before later = TellsNothing status.DiskFault result held now
-Told number drill.NoMemory transcript result held now before later = TellsNothing status.NoMemory result held now
+Told number end transcript result held now before later = TellsNothing (of_drill end) result held now
 
 -- there was no memory for the script
 pub record IsUnmade (result : Status) (w : Outside) : Type 0 where

@@ -28,8 +28,7 @@ IsNext c b past (Some n) = n ≡ length (filter (is_op_of c b) past) + 1
 -- Reports: lost exactly where something is due, and exactly that.
 abbrev pub IsReported : List ℕ → Answer → Type 0
 IsReported ns (answer.Lost ms) = (ms ≡ ns) × T (nat_lt 0 (length ns))
-IsReported ns (answer.Reply r) = ns ≡ []
-IsReported ns (answer.NoRoom live reserved) = ns ≡ []
+IsReported ns _ = ns ≡ []
 
 abbrev pub is_making : Option Update → Bool
 is_making (Some u) = is_make u
@@ -38,14 +37,12 @@ is_making None = false
 -- No room: for a new object alone, and where 16 ids more are too many.
 abbrev pub IsFull : ℕ → Outcome → Answer → Type 0
 IsFull most out (answer.NoRoom live reserved) = T (is_making out.update) × T (nat_lt most (live + reserved + 16))
-IsFull most out (answer.Reply r) = ⊤
-IsFull most out (answer.Lost ns) = ⊤
+IsFull most out _ = ⊤
 
 -- Replies: those of the outcome, with an operation exactly where it has an update. Other answers have none.
 abbrev pub IsReply : Outcome → Answer → Option ℕ → Type 0
 IsReply out (answer.Reply r) op = (r ≡ out.reply) × (is_some op ≡ is_some out.update)
-IsReply out (answer.NoRoom live reserved) op = op ≡ None
-IsReply out (answer.Lost ns) op = op ≡ None
+IsReply out _ op = op ≡ None
 
 -- A call may stand behind a history.
 pub record IsCall (base : Base) (most : ℕ) (past : History) (c b p : ℕ) (cl : Call) (a : Answer) (op : Option ℕ) : Type 0 where

@@ -6,10 +6,7 @@ use Rattle.ec_link.specs.declared.happenings.Happenings.{Happenings}
 
 abbrev pub fault_at : Happening → ℕ
 fault_at at.Fault = 1
-fault_at at.Close = 0
-fault_at (at.Gave bytes) = 0
-fault_at (at.Long n) = 0
-fault_at (at.Got bytes) = 0
+fault_at _ = 0
 
 abbrev pub total : {A : Type 0} → (A → ℕ) → List A → ℕ
 total f [] = 0

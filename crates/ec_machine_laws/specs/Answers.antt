@@ -60,10 +60,6 @@ answers_to v s ids (q ∷ qs) =
     let o = outcome_on v s q.2 (first_number ids) in
     show.Answered q.0 q.1 q.2 (answer.Reply o.reply) (operation_number s q.1 o.update) ∷ answers_to v (after_call s q.1 o.update) (drop 1 ids) qs
 
--- the plain answers to all calls of a script
-abbrev pub plain_answers : Images → List ℕ → List Line → List Shown
-plain_answers v ids ls = answers_to v none_yet ids (asked_from 1 ls)
-
 -- Transcripts.
 
 abbrev pub answer_in : Shown → List Shown

@@ -65,9 +65,6 @@ IsOver w limit.Bytes n = (n ≡ most_bytes + 1) × (bytes : List ℕ) × Consume
 IsOver w limit.Lines n = (script : List ℕ) × IsScript w.left w.left_after script × (n ≡ length (lines_of script)) × (most_lines < n)
 IsOver w limit.Pending n = ⊥
 
-abbrev pub TellsLimit : Outside → List ℕ → Type 0
-TellsLimit w text = (name : LimitName) × (n : ℕ) × IsOver w name n × (w.net_after ≡ w.net) × (text ≡ shown_text (shown.Limit name n))
-
 -- the clerk took an OldBoot of its own age, with this greatest age
 pub record TellsOldBoot (id boot : ℕ) (w : Outside) (text : List ℕ) : Type 0 where
   pub steps : List Step
@@ -79,10 +76,6 @@ pub record TellsOldBoot (id boot : ℕ) (w : Outside) (text : List ℕ) : Type 0
 -- The answers that came before a fault were written, each with its row as where all came, then what was told lost, and then this last line.
 abbrev pub TellsCame : (List (List Call) → List (List Reply) → List (List ℕ) → Type 0) → Outside → List ℕ → List ℕ → Type 0
 TellsCame Why w line text = (rows : List Row) × GivesRows w.left w.left_after rows × ((all : List (List Reply)) × (told : List (List ℕ)) × Why (lanes_of rows) all told × (text ≡ came_text rows all told ++ line))
-
--- nobody was reached, or the link failed or was closed
-abbrev pub TellsLost : ℕ → ℕ → Outside → List ℕ → Type 0
-TellsLost id boot w text = TellsCame (λ lanes all told. Lost id boot lanes w.net w.net_after all told) w [] text
 
 -- the link gave what is no message
 abbrev pub TellsPeer : ℕ → ℕ → Outside → List ℕ → Type 0
@@ -97,14 +90,13 @@ abbrev pub Ends : ℕ → ℕ → Status → Outside → List ℕ → Type 0
 Ends id boot status.Done w text = Answers id boot w text
 Ends id boot status.BadLine w text = TellsBadLine w text
 Ends id boot status.SourceFault w text = Rose w.reads w.reads_after × (w.net_after ≡ w.net) × (text ≡ [])
-Ends id boot status.NetFault w text = TellsLost id boot w text
-Ends id boot status.Limit w text = TellsLimit w text
+Ends id boot status.NetFault w text = TellsCame (λ lanes all told. Lost id boot lanes w.net w.net_after all told) w [] text
+Ends id boot status.Limit w text = (name : LimitName) × (n : ℕ) × IsOver w name n × (w.net_after ≡ w.net) × (text ≡ shown_text (shown.Limit name n))
 Ends id boot status.OldBoot w text = HasRows w × TellsOldBoot id boot w text
 Ends id boot status.PeerFault w text = TellsPeer id boot w text
 Ends id boot status.Spent w text = (c : Counter) × TellsCame (λ lanes all told. Spends id boot lanes w.net w.net_after c all told) w (shown_text (shown.Spent c)) text
 Ends id boot status.StartFault w text = HasRows w × (w.net_after ≡ w.net) × (text ≡ [])
-Ends id boot status.SinkFault w text = ⊥
-Ends id boot status.NoMemory w text = ⊥
+Ends id boot _ w text = ⊥
 
 -- a front of the text was written, not the whole
 pub record WroteFront (text : List ℕ) (held now : Option (List ℕ)) : Type 0 where

@@ -31,8 +31,7 @@ pub record NetSeen : Type 0 where
 abbrev pub AreTold : List (List ℕ) → List Ended → List (List Step) → Type 0
 AreTold start [] [] = Unit {0}
 AreTold start (e ∷ es) (p ∷ ps) = Tells e.0 (heard_by p) × Tells e.1 (start ++ said_by p) × AreTold [] es ps
-AreTold start [] (p ∷ ps) = ⊥
-AreTold start (e ∷ es) [] = ⊥
+AreTold start _ _ = ⊥
 
 -- Each link gave nothing, and got a front of these messages alone.
 abbrev pub AreUnsent : List Out → List Ended → Type 0
@@ -140,15 +139,11 @@ Spends id boot lanes before after c all told = (((start id boot).spent ≡ Some 
 -- the place that the last line shows of bytes that are no message: that of the byte at fault, and 0 for an unknown kind or too great a length
 abbrev pub place_in : WireFault → ℕ
 place_in (wire.Short place) = place
-place_in (wire.Kind byte) = 0
 place_in (wire.Field place) = place
 place_in (wire.Trailing place) = place
-place_in wire.NoMemory = 0
+place_in _ = 0
 
 abbrev pub IsPeerFault : NodeFault → ℕ → Type 0
 IsPeerFault (fault.Peer why) place = place ≡ place_in why
 IsPeerFault (fault.Long n) place = place ≡ 0
-IsPeerFault fault.Net place = ⊥
-IsPeerFault (fault.OldBoot age) place = ⊥
-IsPeerFault (fault.Spent c) place = ⊥
-IsPeerFault fault.NoMemory place = ⊥
+IsPeerFault _ place = ⊥

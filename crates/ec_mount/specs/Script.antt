@@ -17,9 +17,8 @@ most_lines = 65536
 -- each line, from this number on, is one of a lane, and these are its rows
 abbrev pub AreRows : ℕ → List (List ℕ) → List Row → Type 0
 AreRows n [] [] = Unit {0}
-AreRows n [] (row ∷ rows) = ⊥
-AreRows n (bytes ∷ rest) [] = ⊥
 AreRows n (bytes ∷ rest) (row ∷ rows) = (row.line ≡ n) × IsLaneLine bytes (row.lane, row.call) × AreRows (n + 1) rest rows
+AreRows n _ _ = ⊥
 
 -- the rows of one lane, in order
 abbrev pub rows_of : ℕ → List Row → List Row

@@ -15,9 +15,8 @@ abbrev pub row_text : Row → Reply → List ℕ
 row_text row reply = decimal row.line ++ codes " " ++ decimal row.lane ++ codes " " ++ call_text row.call ++ codes " -> " ++ answered_text reply.0 reply.1 ++ 10 ∷ []
 
 abbrev pub answers_text : List Row → List Reply → List ℕ
-answers_text [] replies = []
-answers_text (row ∷ rows) [] = []
 answers_text (row ∷ rows) (reply ∷ replies) = row_text row reply ++ answers_text rows replies
+answers_text _ _ = []
 
 -- lane by lane, from this one on
 abbrev pub lanes_text : ℕ → List Row → List (List Reply) → List ℕ

@@ -13,10 +13,8 @@ abbrev pub Reply : Type 0
 Reply = Answer × Option ℕ
 
 abbrev pub send_of : Out → List Msg
-send_of (out.Answer number answer op) = []
 send_of (out.Send msg) = msg ∷ []
-send_of (out.Told ops) = []
-send_of (out.OldBoot age) = []
+send_of _ = []
 
 abbrev pub sends : List Out → List Msg
 sends = each send_of
@@ -24,28 +22,22 @@ sends = each send_of
 -- the answers, by the numbers of their calls
 abbrev pub answer_of : Out → List (ℕ × Reply)
 answer_of (out.Answer number answer op) = (number, (answer, op)) ∷ []
-answer_of (out.Send msg) = []
-answer_of (out.Told ops) = []
-answer_of (out.OldBoot age) = []
+answer_of _ = []
 
 abbrev pub answers : List Out → List (ℕ × Reply)
 answers = each answer_of
 
 abbrev pub told_of : Out → List (List ℕ)
-told_of (out.Answer number answer op) = []
-told_of (out.Send msg) = []
 told_of (out.Told ops) = ops ∷ []
-told_of (out.OldBoot age) = []
+told_of _ = []
 
 -- the operations that were told lost, as each session ended
 abbrev pub told : List Out → List (List ℕ)
 told = each told_of
 
 abbrev pub old_boot_of : Out → List Age
-old_boot_of (out.Answer number answer op) = []
-old_boot_of (out.Send msg) = []
-old_boot_of (out.Told ops) = []
 old_boot_of (out.OldBoot age) = age ∷ []
+old_boot_of _ = []
 
 abbrev pub old_boots : List Out → List Age
 old_boots = each old_boot_of

@@ -83,23 +83,19 @@ plain_drop volume k (name ∷ names) = on_entry volume (name ∷ names) (drop_in
 
 abbrev pub kind_of : Image → Kind
 kind_of (Dir m s w es) = kind.Dir
-kind_of Gone = kind.File
-kind_of (File m s w bs) = kind.File
+kind_of _ = kind.File
 
 -- A file may take the place of a file, and a directory that of an empty directory; k names led there.
 abbrev pub blocked : Kind → Image → ℕ → Option Refusal
 blocked kind.File (Dir m s w es) k = Some no.IsDir
 blocked kind.Dir (File m s w bs) k = Some (no.NotDir k)
 blocked kind.Dir (Dir m s w es) k = if nat_lt 0 (length es) then Some no.NotEmpty else None
-blocked kind.File (File m s w bs) k = None
-blocked kind.File Gone k = None
-blocked kind.Dir Gone k = None
+blocked _ _ k = None
 
 -- directories, each with the name that leads on from it
 abbrev pub with_names : List ℕ → List (List ℕ) → Above
 with_names (dir ∷ dirs) (name ∷ names) = (dir, name) ∷ with_names dirs names
-with_names [] names = []
-with_names (dir ∷ dirs) [] = []
+with_names _ _ = []
 
 -- The directories above the one that this walk of names read last: of a directory that moves, all from the root on.
 abbrev pub above : Kind → List ℕ → Path → Above
@@ -142,9 +138,8 @@ rename_in volume path target dir entries obj read =
     ]
 
 abbrev pub plain_rename : Images → Path → Path → Outcome
-plain_rename volume [] target = refuses no.Root []
-plain_rename volume (name ∷ names) [] = refuses no.Root []
 plain_rename volume (name ∷ names) (other ∷ others) = on_entry volume (name ∷ names) (rename_in volume (name ∷ names) (other ∷ others))
+plain_rename volume _ _ = refuses no.Root []
 
 -- The objects of the paths, each once, or the first refusal; and what was read.
 

@@ -51,6 +51,5 @@ last_of (n ∷ m ∷ ns) = last_of (m ∷ ns)
 
 abbrev pub same_path : Path → Path → Bool
 same_path [] [] = true
-same_path [] (n ∷ ns) = false
-same_path (n ∷ ns) [] = false
 same_path (m ∷ ms) (n ∷ ns) = same_name m n && same_path ms ns
+same_path _ _ = false

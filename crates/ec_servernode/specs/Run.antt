@@ -27,20 +27,13 @@ number_of s = Some s.pass
 -- a Hello tells its clerk, where it isn't refused
 abbrev pub hello_of : Deed → Option ℕ
 hello_of (Took c bytes m served) = accepted (refusal_in served.value.sent) (hello_in m.value)
-hello_of (Gave c m) = None
-hello_of (Refused m) = None
-hello_of (Halted c bytes m h) = None
-hello_of (Ended c served) = None
-hello_of (HaltedEnd c h) = None
+hello_of _ = None
 
 -- the other end of a link behind a deed of the link's pass
 abbrev pub caller_after : Caller → Deed → Caller
 caller_after k (Took c bytes m served) = behind (accepted (refusal_in served.value.sent) (hello_in m.value)) (refusal_in served.value.sent) k
-caller_after k (Gave c m) = k
 caller_after k (Refused m) = refusal_sent k
-caller_after k (Halted c bytes m h) = k
-caller_after k (Ended c served) = k
-caller_after k (HaltedEnd c h) = k
+caller_after k _ = k
 
 abbrev pub caller_from : Caller → List Step → Caller
 caller_from k [] = k
@@ -85,13 +78,9 @@ abbrev pub is_for : ℕ → Option ℕ → Bool
 is_for pass None = true
 is_for pass (Some p) = p == pass
 
--- an outbox holds so many messages
-abbrev pub most_messages : ℕ
-most_messages = 4096
-
--- A message goes last. One that has no room is dropped.
+-- A message goes last. An outbox holds 4,096; one that has no room is dropped.
 abbrev pub put : List Msg → Msg → List Msg
-put q m = cond (nat_lt (length q) most_messages) (q ++ m ∷ []) q
+put q m = cond (nat_lt (length q) 4096) (q ++ m ∷ []) q
 
 abbrev pub put_all : List Msg → List Msg → List Msg
 put_all q [] = q
@@ -106,10 +95,8 @@ for_clerk c (x ∷ xs) = cond (x.0 == c) (x.1 ∷ for_clerk c xs) (for_clerk c x
 abbrev pub box_after : ℕ → List Msg → Deed → List Msg
 box_after c q (Took d bytes m served) = put_all q (for_clerk c (posted served.value.sent))
 box_after c q (Gave d m) = cond (d == c) (drop 1 q) q
-box_after c q (Refused m) = q
-box_after c q (Halted d bytes m h) = q
 box_after c q (Ended d served) = put_all q (for_clerk c served.value.sent)
-box_after c q (HaltedEnd d h) = q
+box_after c q _ = q
 
 abbrev pub box_from : ℕ → List Msg → List Step → List Msg
 box_from c q [] = q
@@ -119,11 +106,8 @@ box_from c q (s ∷ ss) = box_from c (box_after c q s.deed) ss
 
 abbrev pub after : Server → Deed → Server
 after s (Took c bytes m served) = (message_taken c m.value s).server
-after s (Gave c m) = s
-after s (Refused m) = s
-after s (Halted c bytes m h) = s
 after s (Ended c served) = (session_ended c s).server
-after s (HaltedEnd c h) = s
+after s _ = s
 
 -- the server to which the steps lead
 abbrev pub leads : Server → List Step → Server
@@ -136,23 +120,17 @@ record_of (Some r) = r ∷ []
 
 abbrev pub records_of : Deed → List Record
 records_of (Took c bytes m served) = record_of served.value.rec
-records_of (Gave c m) = []
-records_of (Refused m) = []
-records_of (Halted c bytes m h) = []
 records_of (Ended c served) = record_of served.value.rec
-records_of (HaltedEnd c h) = []
+records_of _ = []
 
 -- the records that were committed
 abbrev pub records : List Step → List Record
 records = each (λ s. records_of s.deed)
 
 abbrev pub halts_of : Deed → List Halt
-halts_of (Took c bytes m served) = []
-halts_of (Gave c m) = []
-halts_of (Refused m) = []
 halts_of (Halted c bytes m h) = h ∷ []
-halts_of (Ended c served) = []
 halts_of (HaltedEnd c h) = h ∷ []
+halts_of _ = []
 
 -- the fault of the disk or spent counter that stands in the list
 abbrev pub halted : List Step → Option Halt

@@ -25,8 +25,7 @@ mark_answer w n = if nat_lt (w.low + 8) n then answer.Beyond w.low else (if has 
 
 abbrev pub is_marked : Marked → Bool
 is_marked answer.Marked = true
-is_marked answer.Already = false
-is_marked (answer.Beyond low) = false
+is_marked _ = false
 
 abbrev pub after_mark : Window → ℕ → Window
 after_mark w n = if is_marked (mark_answer w n) then marked w n else w

@@ -1,5 +1,5 @@
 -- Calls, and what became of them.
-use Rattle.std.specs.Prelude.{◌-◌, ℕ, zero, suc, List, [], ◌∷◌}
+use Rattle.std.specs.Prelude.{◌-◌, ℕ, suc, List, [], ◌∷◌}
 use Rattle.ec_plain.specs.Walk.{Path}
 use Rattle.ec_plain.specs.declared.call.Call.{Call}
 use Rattle.ec_plain.specs.declared.call.Call.TheVariants as call
@@ -18,10 +18,9 @@ Asked = Call × Outcome
 
 -- at most so many paths, and then what became of the call
 abbrev pub PathsThen : ℕ → List Word → List Path → Outcome → Type 0
-PathsThen n [] ps o = ⊥
 PathsThen n (w ∷ ws) [] o = SpellsOutcome (w ∷ ws) o
-PathsThen zero (w ∷ ws) (p ∷ ps) o = ⊥
 PathsThen (suc n) (w ∷ ws) (p ∷ ps) o = IsPathShown w p × PathsThen n ws ps o
+PathsThen _ _ _ o = ⊥
 
 abbrev pub Paths : ℕ → List Word → List Path × Outcome → Type 0
 Paths n ws x = PathsThen n ws x.0 x.1

@@ -18,9 +18,8 @@ Tail mark P (w ∷ ws) (Some v) = (w ≡ mark) × Last P ws v
 -- just so many words, each by the test P
 abbrev pub Times : {V : Type 0} → (Word → V → Type 0) → ℕ → List Word → List V → Type 0
 Times P zero ws vs = (ws ≡ []) × (vs ≡ [])
-Times P (suc n) [] vs = ⊥
-Times P (suc n) (w ∷ ws) [] = ⊥
 Times P (suc n) (w ∷ ws) (v ∷ vs) = P w v × Times P n ws vs
+Times P _ _ _ = ⊥
 
 -- operations, each above the one before it
 abbrev pub Rises : ℕ → List Word → List ℕ → Type 0

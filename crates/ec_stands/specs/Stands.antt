@@ -66,9 +66,8 @@ HasImage v image p e = (next : ℕ) × (e.0 ≡ p.0) × ((slot_code v).read (slo
 
 abbrev pub HasImages : Version → List ℕ → List (ℕ × ℕ) → List (ℕ × Image) → Type 0
 HasImages v image [] [] = Unit {0}
-HasImages v image [] (e ∷ es) = ⊥
-HasImages v image (p ∷ places) [] = ⊥
 HasImages v image (p ∷ places) (e ∷ es) = HasImage v image p e × HasImages v image places es
+HasImages v image _ _ = ⊥
 
 -- the state of a table and of the images in its slots
 abbrev pub state_of : ℕ → Table → List (ℕ × Image) → Durable

@@ -1,6 +1,5 @@
 -- What an image shows, and images with one part changed.
 use Rattle.std.specs.Prelude.{◌==◌, ◌+◌, ◌-◌, ℕ, Bool, true, false, ◌&&◌, List, [], ◌++◌, length, take, drop, replicate, Option, None, Some, is_none}
-use Rattle.ec_volume.specs.Limits.{file_mode, dir_mode}
 use Rattle.ec_volume.specs.Entries.{Entries, entry}
 use Rattle.ec_volume.specs.declared.image.Kind.{Kind}
 use Rattle.ec_volume.specs.declared.image.Kind.TheVariants as kind
@@ -9,18 +8,15 @@ use Rattle.ec_volume.specs.declared.image.Image.TheVariants.{Gone, File, Dir}
 
 abbrev pub is_gone : Image → Bool
 is_gone Gone = true
-is_gone (File m s w bs) = false
-is_gone (Dir m s w es) = false
+is_gone _ = false
 
 abbrev pub is_file : Image → Bool
 is_file (File m s w bs) = true
-is_file Gone = false
-is_file (Dir m s w es) = false
+is_file _ = false
 
 abbrev pub is_dir : Image → Bool
 is_dir (Dir m s w es) = true
-is_dir Gone = false
-is_dir (File m s w bs) = false
+is_dir _ = false
 
 abbrev pub is_kind : Kind → Image → Bool
 is_kind kind.File i = is_file i
@@ -28,13 +24,11 @@ is_kind kind.Dir i = is_dir i
 
 abbrev pub entries_of : Image → Entries
 entries_of (Dir m s w es) = es
-entries_of Gone = []
-entries_of (File m s w bs) = []
+entries_of _ = []
 
 abbrev pub bytes_of : Image → List ℕ
 bytes_of (File m s w bs) = bs
-bytes_of Gone = []
-bytes_of (Dir m s w es) = []
+bytes_of _ = []
 
 -- What the tests of updates ask.
 
@@ -96,5 +90,5 @@ with_owner w (Dir m s _ es) = Dir m s w es
 
 -- a new file has the mode 0644, a new directory 0755; both have stamp and owner 0
 abbrev pub new_object : Kind → Image
-new_object kind.File = File file_mode 0 0 []
-new_object kind.Dir = Dir dir_mode 0 0 []
+new_object kind.File = File 420 0 0 []
+new_object kind.Dir = Dir 493 0 0 []

@@ -120,16 +120,13 @@ is_way kind.Dir into up =
     else nat_le 1 (length up) && nat_le (length up) max_above && (first_of up into == root)
 
 abbrev pub is_within : Update → Bool
-is_within (Make dir name obj k) = true
-is_within (Drop dir name obj k) = true
 is_within (Move dir from to obj k victim) = not (same_name from to)
 is_within (Put obj at bytes inside) = nat_le 1 (length bytes) && nat_le (length bytes) max_write_bytes && nat_le (at + length bytes) max_file_bytes
 is_within (Len obj len) = nat_le len max_file_bytes
 is_within (Mode obj mode) = nat_le mode max_mode
-is_within (Stamp obj stamp) = true
 is_within (Order objs) = nat_le 1 (length objs) && nat_le (length objs) max_ordered
 is_within (Shift dir from into to obj k victim up) = distinct (ids_of up) && is_way k into up
-is_within (Owner obj owner) = true
+is_within _ = true
 
 abbrev pub is_sound : Update → Bool
 is_sound u = distinct (operands u) && is_within u

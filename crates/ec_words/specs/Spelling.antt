@@ -39,11 +39,8 @@ abbrev pub IsCount : Word → ℕ → Type 0
 IsCount = IsNumberIn 0 max_read_bytes
 
 -- a stop is armed for one of so many device calls
-abbrev pub max_armed : ℕ
-max_armed = 1000000
-
 abbrev pub IsArmed : Word → ℕ → Type 0
-IsArmed = IsNumberIn 1 max_armed
+IsArmed = IsNumberIn 1 1000000
 
 abbrev pub max_lane : ℕ
 max_lane = 8
@@ -80,14 +77,12 @@ hex_digit b =
 -- the byte of two digits
 abbrev pub hex_byte : Option ℕ → Option ℕ → Option ℕ
 hex_byte (Some h) (Some l) = Some (h * 16 + l)
-hex_byte (Some h) None = None
-hex_byte None l = None
+hex_byte _ _ = None
 
 -- this byte in front of a text
 abbrev pub led_by : Option ℕ → Option (List ℕ) → Option (List ℕ)
 led_by (Some b) (Some bytes) = Some (b ∷ bytes)
-led_by (Some b) None = None
-led_by None text = None
+led_by _ _ = None
 
 abbrev pub plain_byte : ℕ → Option ℕ
 plain_byte b = if is_printed b then Some b else None

@@ -32,16 +32,12 @@ OnClean most w P (inr silent) = ⊤
 abbrev pub InOrder : (most : ℕ) (st : drilled.Status) (w : Outside) → Drilled most st w → Type 0
 InOrder most drill.Done w d = WholeInOrder most 0 w d
 InOrder most drill.BadLine w d = WholeInOrder most 3 w d
-InOrder most drill.Limit w (inl over) = ⊤
 InOrder most drill.Limit w (inr d) = WholeInOrder most 11 w d
 InOrder most drill.Spent w d = WholeInOrder most 15 w d
 InOrder most drill.SinkFault w d = OnCut most w (PartInOrder most w) d.1
 InOrder most drill.DiskFault w d = OnClean most w (PartInOrder most w) d.1
 InOrder most drill.NoMemory w (inl cut) = OnCut most w (PartInOrder most w) cut
-InOrder most drill.NoMemory w (inr silent) = ⊤
-InOrder most drill.Usage w d = ⊤
-InOrder most drill.SourceFault w d = ⊤
-InOrder most drill.BadDisk w d = ⊤
+InOrder most _ w _ = ⊤
 
 abbrev pub Leaves : (most : ℕ) (st : drilled.Status) (w : Outside) → Drilled most st w → Type 0
 Leaves most drill.Spent w r = IsToldAll w r.reads → ∥ EndsStored r.reads r.fates r.state r.shown ∥₁

@@ -8,9 +8,8 @@ use Rattle.ec_shown.specs.Lines.{IsShown, IsUnfit}
 -- each line is read so, and there are as many
 abbrev pub AreShown : List (List ℕ) → List Shown → Type 0
 AreShown [] [] = ⊤
-AreShown [] (s ∷ ss) = ⊥
-AreShown (l ∷ ls) [] = ⊥
 AreShown (l ∷ ls) (s ∷ ss) = IsShown l s × AreShown ls ss
+AreShown _ _ = ⊥
 
 -- The line of this number, from 1, is the first outside the grammar, and this is its column.
 pub record IsBadLine (bytes : List ℕ) (number column : ℕ) : Type 0 where

@@ -17,6 +17,5 @@ IsOver pass run b = (b.1 ≡ 1) ⊎ (Refuses b.0.0 ⊎ WasReplaced pass run)
 -- Each of these links was served by the pass that stands at its place: the steps of the run with this number are those for the bodies that the link gave and got. It's over.
 abbrev pub AreServed : List Step → List ℕ → List Back → Type 0
 AreServed run [] [] = Unit {0}
-AreServed run [] (l ∷ ls) = ⊥
-AreServed run (n ∷ ns) [] = ⊥
 AreServed run (n ∷ ns) (l ∷ ls) = Carries (of number_of n run) l.0.0 l.0.1 × IsOver n run l × AreServed run ns ls
+AreServed run _ _ = ⊥
