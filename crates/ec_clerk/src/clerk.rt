@@ -9,7 +9,7 @@ ghost use Rattle.ec_protocol.specs.Clerk as clerk;
 ghost use Rattle.ec_protocol.specs.Flushes as flushes;
 ghost use Rattle.ec_doing.specs.Seen.{clerk_with, doing_of, EndsWith};
 
-use ec_base::{Age, ClerkId, Counter, LAST_COUNTER, NoMemory, OpNo, next};
+use ec_base::{Age, ClerkId, Counter, LAST_COUNTER, NoMemory, OpNo, SessionNo, next};
 use ec_cache::Cache;
 use ec_doing::{Doing, step};
 use ec_holdings::Ledger;
@@ -220,6 +220,13 @@ impl Clerk {
             return Err(NoMemory);
         }
         Ok(())
+    }
+
+    /// The session that it's in. It takes no memory.
+    pub fn session(&self) -> Option<SessionNo>
+        ensures { result ≡ self.now.session }
+    {
+        self.doing.session
     }
 
     /// Whether this start issued the operation.

@@ -18,6 +18,11 @@ abbrev pub has_issued_in : ℕ → Option Clerk → Bool
 has_issued_in n None = false
 has_issued_in n (Some k) = machine.has_issued n k
 
+-- the session of a running clerk
+abbrev pub session_in : Option Clerk → Option ℕ
+session_in None = None
+session_in (Some k) = k.session
+
 -- the clerk runs, and took the step, of which these came out
 pub record Steps (f : Clerk → Doing) (c : ℕ) (old new : Table Clerk) (outs : List Out) : Type 0 where
   pub before : Clerk

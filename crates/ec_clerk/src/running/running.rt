@@ -3,11 +3,11 @@ ghost use Rattle.std.specs.Prelude.{◌≡◌, true, IfOk, IfErr, MatchOption};
 ghost use Rattle.ec_base.specs.Tables.{at};
 ghost use Rattle.ec_wire.specs.Messages.{is_sound};
 ghost use Rattle.ec_protocol.specs.Clerk as machine;
-ghost use Rattle.ec_clerk.specs.OfRunning.Running.{BeginsCall, Joins, JoinsNot, StartsRunning, StartsNot, StaysAbsent, Steps, StaysAt, TakesOut, has_issued_in};
+ghost use Rattle.ec_clerk.specs.OfRunning.Running.{BeginsCall, Joins, JoinsNot, StartsRunning, StartsNot, StaysAbsent, Steps, StaysAt, TakesOut, has_issued_in, session_in};
 
 use crate::Clerk;
 use crate::running::fault::StepFault;
-use ec_base::{ClerkId, OpNo, SortedMap};
+use ec_base::{ClerkId, OpNo, SessionNo, SortedMap};
 use ec_plain::Call;
 use ec_protocol::Out;
 use ec_wire::Msg;
@@ -20,6 +20,16 @@ pub fn has_issued(clerks: &SortedMap<ClerkId, Clerk>, id: ClerkId, op: OpNo) -> 
     match clerks.get(&id) {
         Some(clerk) => clerk.has_issued(op),
         None => false,
+    }
+}
+
+/// The session of the clerk, where it runs and has one.
+pub fn session(clerks: &SortedMap<ClerkId, Clerk>, id: ClerkId) -> Option<SessionNo>
+    ensures { result ≡ session_in (at id clerks.now) }
+{
+    match clerks.get(&id) {
+        Some(clerk) => clerk.session(),
+        None => None,
     }
 }
 
