@@ -10,6 +10,7 @@ pub mod FirstSteps
 pub mod Fresh
 pub mod Happens
 pub mod Kept
+pub mod Leased
 pub mod Left
 pub mod Outs
 pub mod Pooled

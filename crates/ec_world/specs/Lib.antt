@@ -1,6 +1,7 @@
 pub mod Calls
 pub mod Cutting
 pub mod Laws
+pub mod Leases
 pub mod Noted
 pub mod Opening
 pub mod Reaching

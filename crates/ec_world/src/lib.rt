@@ -4,6 +4,7 @@
 mod answers;
 mod clerks;
 mod cutting;
+mod leases;
 mod lines;
 mod network;
 mod opening;
