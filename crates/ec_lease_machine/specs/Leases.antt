@@ -16,7 +16,7 @@ use Rattle.ec_protocol.specs.declared.world.World.{World}
 use Rattle.ec_protocol.specs.declared.world.Event.{Event}
 use Rattle.ec_protocol.specs.declared.world.Event.TheVariants as of_world
 use Rattle.ec_protocol.specs.OfPool.Goings.{goes_to, is_kept_from}
-use Rattle.ec_lease_machine.specs.World.{open_in, open_session, resume, session, wait}
+use Rattle.ec_protocol.specs.Resumes.{open_in, open_session, resume, session, wait}
 use Rattle.ec_lease_machine.specs.declared.world.Lease.{Lease}
 use Rattle.ec_lease_machine.specs.declared.world.LeaseEvent.{LeaseEvent}
 use Rattle.ec_lease_machine.specs.declared.world.LeaseEvent.TheVariants as event

@@ -1,4 +1,3 @@
-pub mod World
 pub mod Leases
 pub mod Drill
 pub mod Runs

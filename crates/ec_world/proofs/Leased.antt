@@ -12,7 +12,7 @@ use Rattle.ec_protocol.specs.declared.clerk.Out.{Out}
 use Rattle.ec_protocol.specs.declared.world.World.{World as State}
 use Rattle.ec_protocol.specs.declared.world.WorldFault.{WorldFault}
 use Rattle.ec_protocol.specs.declared.world.WorldFault.TheVariants as fault
-use Rattle.ec_lease_machine.specs.World.{resume, resume_on, session}
+use Rattle.ec_protocol.specs.Resumes.{resume, resume_on, session}
 use Rattle.ec_clerk.specs.OfRunning.Faults.{of_step}
 use Rattle.ec_clerk.specs.OfRunning.Running.{Steps, session_in}
 use Rattle.ec_clerk.specs.declared.running.fault.StepFault.{StepFault}

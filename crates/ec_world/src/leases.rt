@@ -4,7 +4,7 @@ ghost use Rattle.ec_durable.specs.Durable.{slot};
 ghost use Rattle.ec_volume.specs.Update.{member};
 ghost use Rattle.ec_protocol.specs.World as machine;
 ghost use Rattle.ec_protocol.specs.OfPool.Goings as goings;
-ghost use Rattle.ec_lease_machine.specs.World as leases;
+ghost use Rattle.ec_protocol.specs.Resumes as leases;
 ghost use Rattle.ec_history.specs.declared.shown.Shown.TheVariants as shown;
 ghost use Rattle.ec_world.specs.Leases.{BeginsNot, QueuesNot};
 ghost use Rattle.ec_world.specs.StepEnds.{under};

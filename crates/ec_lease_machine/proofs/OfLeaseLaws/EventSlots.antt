@@ -40,7 +40,7 @@ use Rattle.ec_lawful.specs.Steps.{HoldsIn}
 use Rattle.ec_lawful.proofs.ForWhole.Outs.{came-out}
 use Rattle.ec_lawful.proofs.ForWhole.Pool.{Sends, sends-all}
 use Rattle.ec_lawful.proofs.ForAsked.Unended.{EndsNone, EndsOne, end-ends-one, take-ends-none}
-use Rattle.ec_lease_machine.specs.World.{resume, resume_on}
+use Rattle.ec_protocol.specs.Resumes.{resume, resume_on}
 use Rattle.ec_lease_machine.specs.OfLeaseLaws.Slots.{EndsOf, SlotsGo}
 use Rattle.ec_lease_machine.proofs.OfLeaseLaws.RecordSlots.{EndsWithin, record-goes, same-slots}
 use Rattle.ec_base.proofs.Options.{none_some}

@@ -12,7 +12,7 @@ use Rattle.ec_durable.specs.declared.state.Durable.{Durable}
 use Rattle.ec_protocol.specs.declared.world.World.{World}
 use Rattle.ec_coherence.proofs.ForServer.Tables.{at-put, same_some}
 use Rattle.ec_lease_machine.specs.Leases.{greater, in_world, issue, lease, may_receive, moment_in, note, note_slot, note_slots, nth, receive, renew_each, renew_in}
-use Rattle.ec_lease_machine.specs.World.{open_session, session}
+use Rattle.ec_protocol.specs.Resumes.{open_session, session}
 use Rattle.ec_lease_machine.specs.declared.world.Lease.{Lease}
 use Rattle.ec_lease_machine.specs.declared.world.LeaseWorld.{LeaseWorld}
 use Rattle.ec_lease_machine.specs.OfLeaseLaws.Agrees.{AllPast, AreNoted, IsIssued, LeasesAgree}

@@ -23,7 +23,7 @@ use Rattle.ec_coherence.specs.Stops.{RunsOn}
 use Rattle.ec_coherence.proofs.ForServer.Tables.{same_some}
 use Rattle.ec_lawful.specs.AskedLaws.{StandsAsked}
 use Rattle.ec_lawful.specs.Steps.{HoldsIn}
-use Rattle.ec_lease_machine.specs.World.{open_in, open_session, resume, session, wait}
+use Rattle.ec_protocol.specs.Resumes.{open_in, open_session, resume, session, wait}
 use Rattle.ec_lease_machine.specs.Leases.{LeaseMoving, begin_each, begin_queued, end, ends_at, event_happens, fails, grant, hand, happens, in_world, is_held, is_kept, is_started, may_receive, moment_in, moved, moving, note_open, noted_if_started, nothing, nth, onward, opened_leases, queue, receive, shows, step, with_queue, world_happens}
 use Rattle.ec_lease_machine.specs.declared.world.Lease.{Lease}
 use Rattle.ec_lease_machine.specs.declared.world.LeaseEvent.{LeaseEvent}

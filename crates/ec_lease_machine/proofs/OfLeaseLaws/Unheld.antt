@@ -17,7 +17,7 @@ use Rattle.ec_coherence.specs.Stops.{MayStep}
 use Rattle.ec_coherence.proofs.ForServer.Tables.{same_some}
 use Rattle.ec_lawful.specs.Doubts.{ComesFromAny, DoubtAgrees}
 use Rattle.ec_lease_machine.specs.Leases.{has_run_out, is_held, moment_in, skew}
-use Rattle.ec_lease_machine.specs.World.{session}
+use Rattle.ec_protocol.specs.Resumes.{session}
 use Rattle.ec_lease_machine.specs.declared.world.Lease.{Lease}
 use Rattle.ec_lease_machine.specs.declared.world.LeaseWorld.{LeaseWorld}
 use Rattle.ec_lease_machine.specs.OfLeaseLaws.Agrees.{LeasesAgree}

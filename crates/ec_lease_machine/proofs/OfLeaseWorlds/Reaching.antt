@@ -52,7 +52,7 @@ use Rattle.ec_coherence.specs.Steps.{call_of}
 use Rattle.ec_lease_machine.proofs.OfQueues.Adds.{adds-of, event-adds, line-adds, nothing-adds, quiet-adds, resume-adds, wait-adds}
 use Rattle.ec_lease_machine.proofs.OfQueues.Worlds.{queued-hold, queued-in-order}
 use Rattle.ec_protocol.specs.OfPool.Goings.{is_kept_from}
-use Rattle.ec_lease_machine.specs.World.{open_in, open_session, resume, session, wait}
+use Rattle.ec_protocol.specs.Resumes.{open_in, open_session, resume, session, wait}
 use Rattle.ec_lease_machine.specs.Leases.{held, LeaseMoving, begin_each, begin_queued, end, ends_at, event_happens, fails, grant, hand, happens, has_run_out, in_world, is_held, is_kept, is_started, issue, lease, may_receive, moment_in, moved, moving, note, note_open, note_slot, note_slots, noted_if_started, nothing, nth, opened_leases, queue, receive, renew_each, renew_in, shows, step, with_queue, world_happens}
 use Rattle.ec_lease_machine.specs.declared.world.Lease.{Lease}
 use Rattle.ec_lease_machine.specs.declared.world.LeaseEvent.{LeaseEvent}

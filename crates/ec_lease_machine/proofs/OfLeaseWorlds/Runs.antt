@@ -40,7 +40,7 @@ use Rattle.ec_lease_machine.specs.OfQueues.Adds.{MayBe}
 use Rattle.ec_lease_machine.specs.OfQueues.Reached.{QueuedReached}
 use Rattle.ec_lease_machine.proofs.OfQueues.Adds.{event-adds, resume-adds}
 use Rattle.ec_lease_machine.proofs.OfQueues.Worlds.{queued-in-order}
-use Rattle.ec_lease_machine.specs.World.{open_session, resume, resume_on}
+use Rattle.ec_protocol.specs.Resumes.{open_session, resume, resume_on}
 use Rattle.ec_lease_machine.specs.Drill.{LeaseRan, LeaseRead, bound, carry_out, close, delivered, drill_line, due_now, lease_ending, ends, forgotten, is_stopped, joined_lease, last_restart, line_happens, on_message, piece_before, reads, renewed, run_from, settle, unfit, unsettled, world_happens}
 use Rattle.ec_lease_machine.specs.Leases.{LeaseMoving, begin_each, begin_queued, end, ends_at, event_happens, fails, grant, hand, happens, in_world, is_held, is_kept, is_started, issue, may_receive, moved, moving, note_open, noted_if_started, nothing, nth, onward, opened_leases as opened, queue, receive, renew_each, shows, step, with_queue}
 use Rattle.ec_lease_machine.specs.Leases as leases

@@ -31,7 +31,7 @@ use Rattle.ec_protocol.specs.declared.world.World.{World}
 use Rattle.ec_protocol.specs.declared.world.WorldFault.{WorldFault}
 use Rattle.ec_protocol.specs.declared.world.WorldFault.TheVariants as fault
 use Rattle.ec_coherence.specs.Steps.{call_of, calls_after, less_call, out_lines}
-use Rattle.ec_lease_machine.specs.World.{resume, resume_on, wait}
+use Rattle.ec_protocol.specs.Resumes.{resume, resume_on, wait}
 use Rattle.ec_coherence.proofs.ForServer.Tables.{at-put, at-without, same_some}
 use Rattle.ec_lawful.specs.Calls.{AreOf, EachCall, IsOf}
 use Rattle.ec_lawful.proofs.ForWhole.Outs.{Calls, came-out}

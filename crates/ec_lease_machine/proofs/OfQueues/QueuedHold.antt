@@ -15,7 +15,7 @@ use Rattle.ec_protocol.specs.declared.world.WorldFault.TheVariants as fault
 use Rattle.ec_coherence.specs.System.{System}
 use Rattle.ec_coherence.specs.Steps.{Stands, call_of, doing_in}
 use Rattle.ec_coherence.specs.StandLaws.{lined}
-use Rattle.ec_lease_machine.specs.World.{resume, resume_on, wait}
+use Rattle.ec_protocol.specs.Resumes.{resume, resume_on, wait}
 use Rattle.ec_lawful.specs.Steps.{HoldsIn, StepIsDone}
 use Rattle.ec_lawful.specs.Ties.{called}
 use Rattle.ec_lawful.proofs.ForBegins.Called.{new-line}

@@ -37,7 +37,7 @@ use Rattle.ec_lawful.proofs.ForAsked.Opened.{opened-agrees}
 use Rattle.ec_lawful.proofs.ForWhole.Opens.{world-stands}
 use Rattle.ec_lawful.proofs.ForWhole.OpensWhole.{opened-whole}
 use Rattle.ec_lawful.proofs.Worlds.{in-order-of, kept-by, no-calls, no-lines, opened-holds}
-use Rattle.ec_lease_machine.specs.World.{resume, wait}
+use Rattle.ec_protocol.specs.Resumes.{resume, wait}
 use Rattle.ec_lease_machine.specs.OfQueues.Adds.{MayBe}
 use Rattle.ec_lease_machine.specs.OfQueues.Queued.{QueuesKeep}
 use Rattle.ec_lease_machine.specs.OfQueues.Reached.{QueuedReached, opens, happens, forgets, unsettles, waits, resumes}

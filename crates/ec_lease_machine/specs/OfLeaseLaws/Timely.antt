@@ -13,7 +13,7 @@ use Rattle.ec_coherence.specs.CommitLaws.{AllAgree}
 use Rattle.ec_coherence.specs.Steps.{Stands}
 use Rattle.ec_lawful.specs.Doubts.{ComesFrom, DoubtAgrees}
 use Rattle.ec_lease_machine.specs.Leases.{is_held}
-use Rattle.ec_lease_machine.specs.World.{session}
+use Rattle.ec_protocol.specs.Resumes.{session}
 use Rattle.ec_lease_machine.specs.declared.world.LeaseWorld.{LeaseWorld}
 use Rattle.ec_lease_machine.specs.OfLeaseLaws.Agrees.{LeasesAgree}
 

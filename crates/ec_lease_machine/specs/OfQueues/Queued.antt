@@ -14,7 +14,7 @@ use Rattle.ec_coherence.specs.Steps.{call_of}
 use Rattle.ec_coherence.specs.StandLaws.{lined}
 use Rattle.ec_lawful.specs.OfClerkSteps.Calls.{is_shown}
 use Rattle.ec_lawful.specs.OfClerkSteps.CallLaws.{IsNewLine}
-use Rattle.ec_lease_machine.specs.World.{resume, wait}
+use Rattle.ec_protocol.specs.Resumes.{resume, wait}
 use Rattle.ec_lawful.specs.Steps.{HoldsIn, StepIsDone, IsNewIn}
 use Rattle.ec_lawful.specs.Ties.{called}
 use Rattle.ec_lawful.specs.Whole.{Whole}

@@ -9,7 +9,7 @@ use Rattle.ec_durable.specs.declared.state.Durable.{Durable}
 use Rattle.ec_protocol.specs.World.{Fate, forget, happen, moving, open_world, show_line}
 use Rattle.ec_protocol.specs.declared.world.Event.{Event}
 use Rattle.ec_protocol.specs.declared.world.World.{World}
-use Rattle.ec_lease_machine.specs.World.{resume, wait}
+use Rattle.ec_protocol.specs.Resumes.{resume, wait}
 use Rattle.ec_lawful.specs.Asked.{AsksAgree}
 use Rattle.ec_lawful.specs.Olds.{opened_in}
 use Rattle.ec_lawful.specs.Reached.{IsInOrder}

@@ -1,7 +1,7 @@
 use Rattle.std.proofs.Common.{◌≡◌, None, sym, subst}
 use Rattle.std.specs.Prelude.{IfErr, OnOk}
 use Rattle.ec_protocol.specs.declared.world.World.{World as State}
-use Rattle.ec_lease_machine.specs.World.{resume}
+use Rattle.ec_protocol.specs.Resumes.{resume}
 use Rattle.ec_world.specs.Leases.{BeginsNot}
 use Rattle.ec_world.specs.StepEnds.{under}
 use Rattle.ec_world.specs.Worlds.{view_of}
