@@ -1,4 +1,4 @@
-use Rattle.std.proofs.Common.{◌≡◌, None, sym, subst}
+use Rattle.std.proofs.Common.{◌≡◌, subst}
 use Rattle.std.specs.Prelude.{IfErr, OnOk}
 use Rattle.ec_protocol.specs.declared.world.World.{World as State}
 use Rattle.ec_protocol.specs.Resumes.{resume}
