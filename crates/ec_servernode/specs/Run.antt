@@ -78,9 +78,13 @@ abbrev pub is_for : ℕ → Option ℕ → Bool
 is_for pass None = true
 is_for pass (Some p) = p == pass
 
--- A message goes last. An outbox holds 4,096; one that has no room is dropped.
+-- an outbox holds so many messages
+abbrev pub most_messages : ℕ
+most_messages = 4096
+
+-- A message goes last. One that has no room is dropped.
 abbrev pub put : List Msg → Msg → List Msg
-put q m = cond (nat_lt (length q) 4096) (q ++ m ∷ []) q
+put q m = cond (nat_lt (length q) most_messages) (q ++ m ∷ []) q
 
 abbrev pub put_all : List Msg → List Msg → List Msg
 put_all q [] = q

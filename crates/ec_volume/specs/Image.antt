@@ -1,5 +1,6 @@
 -- What an image shows, and images with one part changed.
 use Rattle.std.specs.Prelude.{◌==◌, ◌+◌, ◌-◌, ℕ, Bool, true, false, ◌&&◌, List, [], ◌++◌, length, take, drop, replicate, Option, None, Some, is_none}
+use Rattle.ec_volume.specs.Limits.{file_mode, dir_mode}
 use Rattle.ec_volume.specs.Entries.{Entries, entry}
 use Rattle.ec_volume.specs.declared.image.Kind.{Kind}
 use Rattle.ec_volume.specs.declared.image.Kind.TheVariants as kind
@@ -90,5 +91,5 @@ with_owner w (Dir m s _ es) = Dir m s w es
 
 -- a new file has the mode 0644, a new directory 0755; both have stamp and owner 0
 abbrev pub new_object : Kind → Image
-new_object kind.File = File 420 0 0 []
-new_object kind.Dir = Dir 493 0 0 []
+new_object kind.File = File file_mode 0 0 []
+new_object kind.Dir = Dir dir_mode 0 0 []

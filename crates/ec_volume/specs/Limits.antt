@@ -23,3 +23,11 @@ max_ordered = 8
 -- directories above the one that a directory moves into
 abbrev pub max_above : ℕ
 max_above = max_path_names - 1
+
+-- of a new file: 0644
+abbrev pub file_mode : ℕ
+file_mode = 420
+
+-- of a new directory: 0755
+abbrev pub dir_mode : ℕ
+dir_mode = 493

@@ -39,8 +39,11 @@ abbrev pub IsCount : Word → ℕ → Type 0
 IsCount = IsNumberIn 0 max_read_bytes
 
 -- a stop is armed for one of so many device calls
+abbrev pub max_armed : ℕ
+max_armed = 1000000
+
 abbrev pub IsArmed : Word → ℕ → Type 0
-IsArmed = IsNumberIn 1 1000000
+IsArmed = IsNumberIn 1 max_armed
 
 abbrev pub max_lane : ℕ
 max_lane = 8

@@ -4,8 +4,14 @@ use Rattle.std.specs.Fmt.{decimal}
 
 -- Drawing.
 
+abbrev pub multiplier : ℕ
+multiplier = 6364136223846793005
+
+abbrev pub increment : ℕ
+increment = 1442695040888963407
+
 abbrev pub next : ℕ → ℕ
-next state = (state * 6364136223846793005 + 1442695040888963407) % 2 ^ 64
+next state = (state * multiplier + increment) % 2 ^ 64
 
 -- the state that so many draws lead to from a start number on
 abbrev pub state_after : ℕ → ℕ → ℕ
