@@ -1,12 +1,13 @@
 // What leases need of a world: its sessions, which messages go to clerks, and calls that begin behind their line.
-ghost use Rattle.std.specs.Prelude.{◌≡◌, [], None, IfOk, IfErr, OnOk};
+ghost use Rattle.std.specs.Prelude.{◌≡◌, [], None, IfOk, IfErr, OnOk, length};
+ghost use Rattle.ec_base.specs.Limits.{clerk_count};
 ghost use Rattle.ec_durable.specs.Durable.{slot};
 ghost use Rattle.ec_volume.specs.Update.{member};
 ghost use Rattle.ec_protocol.specs.World as machine;
 ghost use Rattle.ec_protocol.specs.OfPool.Goings as goings;
 ghost use Rattle.ec_protocol.specs.Resumes as leases;
 ghost use Rattle.ec_history.specs.declared.shown.Shown.TheVariants as shown;
-ghost use Rattle.ec_world.specs.Leases.{BeginsNot, QueuesNot};
+ghost use Rattle.ec_world.specs.Leases.{BeginsNot, HasSlots, QueuesNot};
 ghost use Rattle.ec_world.specs.StepEnds.{under};
 ghost use Rattle.ec_world.specs.Worlds.{view_of, KeepsServer};
 
@@ -30,7 +31,8 @@ impl World {
 
     /// The session of the clerk that the running server has open.
     pub fn open_session(&self, clerk: ClerkId) -> Option<SessionNo>
-        ensures { result ≡ leases.open_session clerk (view_of self.now) }
+        ensures value { result ≡ leases.open_session clerk (view_of self.now) }
+        ensures slots { HasSlots (view_of self.now).server }
     {
         if self.server.is_none() {
             return None;
@@ -40,7 +42,8 @@ impl World {
 
     // The session of the clerk that is open on the disk.
     fn session_on_disk(&self, clerk: ClerkId) -> Option<SessionNo>
-        ensures { result ≡ leases.open_in (slot (view_of self.now).durable clerk) }
+        ensures value { result ≡ leases.open_in (slot (view_of self.now).durable clerk) }
+        ensures slots { length (view_of self.now).durable.sessions ≡ clerk_count }
     {
         match self.store.view().sessions.slot(clerk) {
             Some(slot) if slot.is_open => Some(slot.session),

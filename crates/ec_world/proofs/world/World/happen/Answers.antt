@@ -1,4 +1,4 @@
-use Rattle.std.proofs.Common.{◌≡◌, ◌∙◌, refl, ap, Err}
+use Rattle.std.proofs.Common.{◌≡◌, ◌∙◌, refl, sym, ap, Err}
 use Rattle.std.proofs.lemmas.Result.{err_from_is_err_and}
 use Rattle.ec_protocol.specs.World as machine
 use Rattle.ec_protocol.specs.declared.world.Event.{Event}
@@ -7,6 +7,7 @@ use Rattle.ec_store.specs.Store.{view_of as state_of}
 use Rattle.ec_world.specs.Laws.{in_step_rests, in_step_keeps}
 use Rattle.ec_world.specs.Worlds.{view_of}
 use Rattle.ec_world.specs.StepEnds.{under}
+use Rattle.ec_world.specs.declared.world.World.{World}
 use Rattle.ec_world.proofs.Quiet.{in_step, not_failed, left_as_was, uncounted}
 use Rattle.ec_world.proofs.Happens.{acted, acts, acts_not, happens, leaves, out_of_memory, refuses_nothing, not_failed_there, stopped_in_step, armed, arm_counts, still_counts}
 use Rattle.ec_world.proofs.world.World.happen.Goals as goal
@@ -226,17 +227,18 @@ returns-in_err-stop-in-Stop-clause-left g c = left_as_was c.from_residual-in_err
 
 pub returns-in-Arm-clause-ok : goal.returns-in-Arm-clause-ok
 returns-in-Arm-clause-ok g c =
-    let mid = record c.args.self.now { choice = c.in-Arm.choice } in
-    acted g.D.Disk.tells (g.D.Disk.counts c.args.disk.now) (g.D.Disk.counts c.arm.new.self) c.args.event (event.Arm c.in-Arm.calls c.in-Arm.choice) (view_of c.args.self.now) (under mid) c.in-Arm.is c.arm.ensures.armed refl
-    (armed c.in-Arm.calls c.in-Arm.choice (event.Arm c.in-Arm.calls c.in-Arm.choice) c.args.self.now refl c.requires.piece)
+    let chosen = c.arm.ensures.chosen in
+    acted g.D.Disk.tells (g.D.Disk.counts c.args.disk.now) (g.D.Disk.counts c.arm.new.disk) c.args.event (event.Arm c.in-Arm.calls c.in-Arm.choice) (view_of c.args.self.now) (under c.arm.new.self) c.in-Arm.is c.arm.ensures.armed (ap (λ (w : World). (view_of w).durable) chosen)
+    (armed c.in-Arm.calls c.in-Arm.choice (event.Arm c.in-Arm.calls c.in-Arm.choice) c.args.self.now refl c.requires.piece ∙ ap (λ (w : World). under w) (sym chosen))
 
 pub returns-in-Arm-clause-in_step : goal.returns-in-Arm-clause-in_step
 returns-in-Arm-clause-in_step g c =
-    in_step_keeps g.D.Disk.tells (g.D.Disk.view c.arm.new.self) c.args.self.now (record c.args.self.now { choice = c.in-Arm.choice }) (record { store = refl; server = refl })
-    (in_step_rests g.D.Disk.tells (g.D.Disk.view c.args.disk.now) (g.D.Disk.view c.arm.new.self) c.args.self.now c.arm.ensures.rests c.requires.in_step)
+    let chosen = c.arm.ensures.chosen in
+    in_step_keeps g.D.Disk.tells (g.D.Disk.view c.arm.new.disk) c.args.self.now c.arm.new.self (record { store = ap (λ (w : World). w.store) chosen; server = ap (λ (w : World). w.server) chosen })
+    (in_step_rests g.D.Disk.tells (g.D.Disk.view c.args.disk.now) (g.D.Disk.view c.arm.new.disk) c.args.self.now c.arm.ensures.rests c.requires.in_step)
 
 pub returns-in-Arm-clause-counts : goal.returns-in-Arm-clause-counts
-returns-in-Arm-clause-counts g c = arm_counts c.in-Arm.calls c.in-Arm.choice c.args.event (g.D.Disk.counts c.args.disk.now) (g.D.Disk.counts c.arm.new.self) _ _ c.in-Arm.is c.arm.ensures.armed (λ failed. cc)
+returns-in-Arm-clause-counts g c = arm_counts c.in-Arm.calls c.in-Arm.choice c.args.event (g.D.Disk.counts c.args.disk.now) (g.D.Disk.counts c.arm.new.disk) _ _ c.in-Arm.is c.arm.ensures.armed (λ failed. cc)
 
 pub returns-in-Deliver-clause-left : goal.returns-in-Deliver-clause-left
 returns-in-Deliver-clause-left g c = leaves c.deliver.result g.D.Disk.tells (g.D.Disk.view c.deliver.new.disk).may_leave (view_of c.args.self.now).durable c.args.event (event.Deliver c.in-Deliver.number) (view_of c.args.self.now) c.in-Deliver.is c.deliver.ensures.left
