@@ -1,5 +1,5 @@
 -- Lists that are taken out of a map and put back, and their places counted from 1.
-use Rattle.std.proofs.Common.{◌≡◌, ◌+◌, ◌-◌, ℕ, suc, zero, List, [], ◌∷◌, ◌++◌, Bool, Option, Some, None, true, false, length, refl, sym, ap, subst, ◌∙◌, arith}
+use Rattle.std.proofs.Common.{◌≡◌, ◌<◌, ◌+◌, ◌-◌, ℕ, suc, zero, List, [], ◌∷◌, ◌++◌, Bool, Option, Some, None, true, false, length, drop, get_or, drop-cons, refl, sym, ap, subst, ◌∙◌, arith}
 use Rattle.std.specs.Prelude.{◌==◌, T, slice_get}
 use Rattle.std.specs.declared.cmp.Ordering.{Ordering}
 use Rattle.std.specs.declared.cmp.Ordering.TheVariants.{Less, Equal, Greater}
@@ -7,7 +7,7 @@ use Rattle.std.specs.Cmp.{nat_cmp_total}
 use Rattle.std.specs.Ordering.{nat_cmp}
 use Rattle.std.specs.FinMap.Entries.{is_sorted, below_all}
 use Rattle.std.proofs.lemmas.Map.Lookups.{exact_unsigned}
-use Rattle.ec_base.specs.Tables.{Table, at_or, put, without}
+use Rattle.ec_base.specs.Tables.{Table, at, at_or, or_else, put, without}
 use Rattle.ec_base.proofs.Numbers.{differ}
 use Rattle.ec_base.specs.SortedLaws.{first, second, kept_below, below_first, below_tied}
 use Rattle.ec_lease_book.specs.Book.{Booked, with_book}
@@ -69,6 +69,21 @@ nth_at (a ∷ more) n (suc k) e = nth_behind n a more (λ x. omega (arith, e, x)
 pub nth_from : (n : ℕ) (xs : List Lease) → (n ≡ 0 → ⊥) → nth n xs ≡ slice_get xs (n - 1)
 nth_from zero xs some = absurd (some refl)
 nth_from (suc k) xs some = let e : suc k - 1 ≡ k = omega arith in subst (λ m. nth (suc k) xs ≡ slice_get xs m) (sym e) (nth_at xs (suc k) k (omega arith))
+
+-- a key's list
+
+pub list_at : {X : Type 0} (k : ℕ) (es : Table (List X)) (xs : List X) → at k es ≡ Some xs → xs ≡ at_or [] k es
+list_at k es xs is = sym (ap (or_else []) is)
+
+pub no_list : {X : Type 0} (k : ℕ) (es : Table (List X)) → at k es ≡ None → [] ≡ at_or [] k es
+no_list k es is = sym (ap (or_else []) is)
+
+-- the call at a place of a queue
+pub queued_is : (n : ℕ) (xs own : List (ℕ × Call)) (q : ℕ × Call) (cl : Call) → xs ≡ own → n < length xs → q ≡ get_or xs n q → cl ≡ q.1 → drop n own ≡ (q.0, cl) ∷ drop (n + 1) own
+queued_is n xs own q cl same within there copy =
+    let next : suc n ≡ n + 1 = omega arith in
+    ap (drop n) (sym same) ∙ drop-cons xs n q within ∙ ap (λ (p : ℕ × Call). p ∷ drop (suc n) xs) (sym there ∙ ap (λ (c : Call). (q.0, c)) (sym copy))
+    ∙ ap (λ (k : ℕ). (q.0, cl) ∷ drop k xs) next ∙ ap (λ (ys : List (ℕ × Call)). (q.0, cl) ∷ drop (n + 1) ys) same
 
 -- a clerk's calls that are still queued
 

@@ -1,5 +1,5 @@
 // Queued calls.
-ghost use Rattle.std.specs.Prelude.{◌≡◌, ◌++◌, ◌∷◌, [], ℕ, T, List as Listed, OnOk};
+ghost use Rattle.std.specs.Prelude.{◌≡◌, ◌<◌, ◌≤◌, ◌+◌, ◌++◌, ◌∷◌, [], ℕ, T, List as Listed, length, drop as behind, IfOk, OnOk};
 ghost use Rattle.std.specs.FinMap.Entries.{is_sorted};
 ghost use Rattle.std.specs.Ordering.{nat_cmp};
 ghost use Rattle.ec_base.specs.Tables.{at_or, put, without};
@@ -9,7 +9,7 @@ ghost use Rattle.ec_lease_machine.specs.Leases as leases;
 ghost use Rattle.ec_lease_book.specs.Book.{with_book};
 
 use crate::book::Book;
-use ec_base::{ClerkId, List, NoMemory, SortedMap};
+use ec_base::{ClerkId, Duplicate, List, NoMemory, SortedMap};
 use ec_plain::Call;
 use std::alloc::Global;
 
@@ -35,6 +35,45 @@ impl Book {
         ensures back { (queue : Listed (ℕ × Asked)) (w : World) → leases.with_queue clerk queue (with_book self.new w) ≡ leases.with_queue clerk queue (with_book self.old w) }
     {
         take_list(alloc, &mut self.queued, clerk)
+    }
+
+    /// How many calls of the clerk are queued.
+    pub fn queued(&self, clerk: ClerkId) -> usize
+        ensures { result ≡ length (at_or [] clerk self.now.queued) }
+    {
+        match self.queued.get(&clerk) {
+            Some(queue) => queue.as_slice().len(),
+            None => 0,
+        }
+    }
+
+    /// A copy of the clerk's queued call behind so many.
+    pub fn queued_at(&self, clerk: ClerkId, count: usize) -> Result<(u32, Call), NoMemory>
+        requires { count < length (at_or [] clerk self.now.queued) }
+        ensures { IfOk result (λ next. behind count (at_or [] clerk self.now.queued) ≡ next ∷ behind (count + 1) (at_or [] clerk self.now.queued)) }
+    {
+        let Some(queue) = self.queued.get(&clerk) else {
+            unreachable!();
+        };
+        match queue.as_slice().get(count) {
+            Some(queued) => Ok((queued.0, queued.1.duplicate()?)),
+            None => unreachable!(),
+        }
+    }
+
+    /// The first of the clerk's queued calls, so many, have begun, and the others stay queued.
+    pub fn leave_behind(
+        &mut self,
+        alloc: Global,
+        clerk: ClerkId,
+        count: usize,
+    ) -> Result<(), NoMemory>
+        requires { count ≤ length (at_or [] clerk self.old.queued) }
+        ensures { OnOk result ((w : World) → leases.with_queue clerk (behind count (at_or [] clerk self.old.queued)) (with_book self.old w) ≡ with_book self.new w) }
+    {
+        let mut queue = self.take_queue(alloc, clerk);
+        queue.drain(..count);
+        self.set_queue(clerk, queue)
     }
 
     /// The clerk's queued calls are these.
