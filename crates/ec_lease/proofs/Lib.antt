@@ -1,0 +1,13 @@
+pub mod Behind
+pub mod Clocks
+pub mod Comes
+pub mod Counting
+pub mod Fated
+pub mod Happening
+pub mod Kept
+pub mod Lines
+pub mod Noting
+pub mod Parts
+pub mod Queued
+pub mod Renewing
+pub mod Rounds

@@ -1,0 +1,4 @@
+pub mod Issuing
+pub mod Queued
+pub mod Steps
+pub mod Worlds
