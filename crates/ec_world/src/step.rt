@@ -1,6 +1,6 @@
 // One step, by its event.
-ghost use Rattle.std.specs.Prelude.{◌≡◌, ℕ, List, [], Err, IsOk, IfOk, IfErr, IsErrAnd, OnOk};
-ghost use Rattle.ec_disk.specs.Effects.{Counted};
+ghost use Rattle.std.specs.Prelude.{◌≡◌, ℕ, List, [], Some, Err, IsOk, IfOk, IfErr, IsErrAnd, OnOk};
+ghost use Rattle.ec_disk.specs.Effects.{Counted, Rests};
 ghost use Rattle.ec_protocol.specs.World as machine;
 ghost use Rattle.ec_clerk.specs.OfRunning.Faults.{of_step};
 ghost use Rattle.ec_world.specs.Worlds.{view_of, IsInStep, KeepsServer};
@@ -9,7 +9,7 @@ ghost use Rattle.ec_clerk.specs.declared.running.fault.StepFault.TheVariants as 
 
 use crate::world::World;
 use ec_clerk::running::StepFault;
-use ec_disk::CrashDisk;
+use ec_disk::{Choice, CrashDisk};
 use ec_history::Shown;
 use ec_protocol::pool::is_for_server;
 use ec_protocol::{Event, WorldFault};
@@ -44,12 +44,21 @@ impl World {
             Event::End(clerk) => self.end(alloc, disk, clerk),
             Event::Stop => Ok(self.stop(alloc)?),
             Event::Arm(calls, choice) => {
-                disk.arm(calls);
-                self.choice = choice;
+                self.arm(disk, calls, choice);
                 Ok(())
             }
             Event::Restart => self.restart(alloc, disk),
         }
+    }
+
+    // The call of this number is to stop, and a power cut is to leave what the choice says.
+    fn arm<D: CrashDisk>(&mut self, disk: &mut D, calls: u64, choice: Choice)
+        ensures chosen { self.new ≡ record self.old { choice = choice } }
+        ensures armed { D.counts disk.new ≡ record (D.counts disk.old) { armed = Some calls } }
+        ensures rests { D.tells → Rests (D.view disk.old) (D.view disk.new) }
+    {
+        disk.arm(calls);
+        self.choice = choice;
     }
 
     fn deliver<D: CrashDisk>(
