@@ -34,7 +34,7 @@ pub enum Tended {
     Cut,
 }
 
-// Why a disk isn't opened. One that isn't armed doesn't stop.
+/// Why a disk isn't opened. One that isn't armed doesn't stop.
 pub fn unopened(fault: StoreFault) -> Ending
     ensures { result ≡ unopened fault }
 {
@@ -47,7 +47,7 @@ pub fn unopened(fault: StoreFault) -> Ending
     }
 }
 
-// Why a server isn't started.
+/// Why a server isn't started.
 pub fn unstarted(fault: ServerFault) -> Ending
     ensures { result ≡ unstarted fault }
 {
@@ -70,7 +70,7 @@ fn of_tended(tended: Tended) -> Ending
     }
 }
 
-// How a server ends, by why it's down and how its links ended. Where it can't be handed back, memory was wanting.
+/// How a server ends, by why it's down and how its links ended. Where it can't be handed back, memory was wanting.
 pub fn ending_of(halt: Option<Halt>, is_back: bool, tended: Tended) -> Ending
     ensures { result ≡ ending_of halt is_back tended }
 {

@@ -13,7 +13,8 @@ use std::alloc::Global;
 /// A disk is formatted for a volume of so many objects.
 pub const MOST_OBJECTS: u32 = 1_024;
 
-/// Opens what a disk holds. An empty one is laid out first.
+/// Opens what a disk holds. An empty one is laid out first. Faults are the store's: a disk that stands for no state, with its first
+/// bad place, is left as it is; a disk may fail or stop, and memory may be wanting.
 pub fn store_on<D: Disk>(alloc: Global, disk: &mut D) -> Result<Store, StoreFault>
     ensures opens { IfOk result (λ store. Opens D.tells (D.view disk.old).gives (view_of store)) }
     ensures held { IfOk result (λ store. D.tells → IsHeld (D.view disk.new) store) }

@@ -1,5 +1,5 @@
 -- What becomes of the tally of a server's links, and of its own pass.
-use Rattle.std.specs.Prelude.{◌≡◌, ◌⊎◌, ◌+◌, ℕ, true, false, length}
+use Rattle.std.specs.Prelude.{◌≡◌, ◌⊎◌, ◌+◌, ◌<◌, ℕ, true, false, length}
 use mathlib.Core.List.{IsPrefix}
 use Rattle.ec_lock.specs.PassViews.{front, numbers}
 use Rattle.ec_lock.specs.Steps.{Member, of}
@@ -13,6 +13,10 @@ module _ {L : Type 0} where
   -- no further link is to come
   abbrev pub NoneComes : Tally L → Type 0
   NoneComes t = (t.left ≡ 0) ⊎ ((t.failed ≡ true) ⊎ (t.wants ≡ true))
+
+  -- a further link is to come
+  abbrev pub OneComes : Tally L → Type 0
+  OneComes t = (0 < t.left) × (t.failed ≡ false) × (t.wants ≡ false)
 
   -- it was looked whether one is to come
   abbrev pub Looks : Tally L → Tally L → Type 0

@@ -5,7 +5,7 @@ ghost use Rattle.ec_link.specs.NetAnswers.{IsEmpty, is_bad};
 ghost use Rattle.ec_link.specs.JobCounts.{job_taken};
 ghost use Rattle.ec_servernode.specs.TurnSteps.{IsServerPass};
 ghost use Rattle.ec_attend.specs.OverLinks.{EndsSo, BeginsSo, GoneSo};
-ghost use Rattle.ec_serve.specs.OfThreads.Tallies.{KnowsMore, Begins, Looks, NoneComes, GivesBack};
+ghost use Rattle.ec_serve.specs.OfThreads.Tallies.{KnowsMore, Begins, Looks, NoneComes, OneComes, GivesBack};
 ghost use Rattle.ec_serve.specs.OfThreads.ServingMoments.{back_of, moment, GoesOn};
 
 use ec_attend::bells::{Bells, Watch, give_back, tell_begin};
@@ -130,6 +130,7 @@ impl<'s, 'b, K: Keeper + Drop, N: Net> Connections<'s, 'b, K, N> {
         ensures server { self.new.server ≡ self.old.server }
         ensures tally { Looks self.old.tally self.new.tally }
         ensures over { result ≡ true → NoneComes self.new.tally }
+        ensures more { result ≡ false → OneComes self.new.tally }
     {
         self.tally.wants = self.tally.wants || self.bells.is_over();
         self.tally.left == 0 || self.tally.failed || self.tally.wants

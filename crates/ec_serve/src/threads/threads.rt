@@ -10,7 +10,7 @@ ghost use Rattle.ec_lock.specs.Steps.{Member, of};
 ghost use Rattle.ec_servernode.specs.Run.{number_of};
 ghost use Rattle.ec_servernode.specs.TurnSteps.{IsServerPass};
 ghost use Rattle.ec_attend.specs.OverLinks.{EndsSo, BeginsSo, GoneSo};
-ghost use Rattle.ec_serve.specs.OfThreads.Tallies.{KnowsMore, NoneComes, AreLive, AllEnded, GivesBack};
+ghost use Rattle.ec_serve.specs.OfThreads.Tallies.{KnowsMore, NoneComes, OneComes, AreLive, AllEnded, GivesBack};
 ghost use Rattle.ec_serve.specs.OfThreads.ServingMoments.{AllServe, back_of, moment, GoesOn};
 
 use crate::threads::connections::{Connections, Tally};
@@ -257,6 +257,7 @@ where
     ensures back { connections.new.tally.back ≡ connections.old.tally.back }
     ensures each { length connections.new.tally.begun.items + slab_len live.old.links ≡ length connections.old.tally.begun.items + slab_len live.new.links + refused_by result }
     ensures over { IfSome result (λ s. s ≡ spawned.All → NoneComes connections.new.tally) }
+    ensures more { IfNone result (OneComes connections.old.tally) }
     ensures kept { AllServe (λ one. one.handle.promise.0.value) connections.old.server.now live.new.links }
     ensures warden { live.new.warden ≡ live.old.warden }
     ensures faults { faults_of spawner.new ≡ faults_of spawner.old + refused_by result }
