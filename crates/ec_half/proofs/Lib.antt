@@ -3,3 +3,4 @@ pub mod Fills
 pub mod Halves
 pub mod Headers
 pub mod OfSlots
+pub mod Raises

@@ -1,10 +1,10 @@
 -- What the first bytes of a disk say: its generation, or why it's no half of a mirror.
 use Rattle.std.specs.Prelude.{◌≡◌, ◌⊎◌, ◌<◌, ◌≤◌, ◌+◌, ◌^◌, ℕ, true, false, List, length, Option, Some, None, codes}
 use Rattle.std.specs.Int.{w64, from_be_bytes}
-use Rattle.ec_disk.specs.Disk.{byte, part}
+use Rattle.ec_disk.specs.Disk.{View, byte, part}
 use Rattle.ec_half.specs.declared.slots.slot.Slot.{Slot}
 use Rattle.ec_half.specs.declared.slots.slot.Slot.TheVariants as slot
-use Rattle.ec_half.specs.OfSlots.Slots.{gate_in, number_in, open_gate, other, header_bytes}
+use Rattle.ec_half.specs.OfSlots.Slots.{gate_in, number_in, open_gate, other, header_bytes, AreReady}
 use Rattle.ec_half.specs.declared.header.Found.{Found}
 use Rattle.ec_half.specs.declared.header.Found.TheVariants as found
 use Rattle.ec_half.specs.declared.header.Generation.{Generation}
@@ -66,3 +66,11 @@ MayBeHalf image = (length image ≤ header_bytes) ⊎ ((g : Generation) × IsFou
 abbrev pub IsFoundOf : Found → List ℕ → Type 0
 IsFoundOf found.Empty image = length image ≤ header_bytes
 IsFoundOf (found.Half g) image = (header_bytes < length image) × IsFound image g
+
+-- Each image that a crash may leave has this generation, in its slot, and is ready for the next one.
+abbrev pub AllHave : View → Generation → Type 0
+AllHave now g = AreReady now (other g.slot) g.is_open g.number
+
+-- the next generation stands in the other slot
+abbrev pub next_of : Generation → ℕ → Generation
+next_of g number = record { number = number; slot = other g.slot; is_open = true }

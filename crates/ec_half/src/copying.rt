@@ -3,6 +3,7 @@ ghost use Rattle.std.specs.Prelude.{◌≡◌, ◌<◌, ◌≤◌, ◌+◌, ◌�
 ghost use Rattle.ec_disk.specs.declared.disk.DiskAnswer.{DiskAnswer};
 ghost use Rattle.ec_disk.specs.declared.disk.DiskAnswer.TheVariants as said;
 ghost use Rattle.ec_half.specs.Contents.{content_behind, HasHeader, Rested, Stays, AllSynced};
+ghost use Rattle.ec_half.specs.Headers.{most_generation, AllHave};
 ghost use Rattle.ec_half.specs.OfSlots.Contents.{filled};
 ghost use Rattle.ec_half.specs.declared.copying.Joined.TheVariants as joined;
 ghost use Rattle.ec_half.specs.declared.copying.Copied.TheVariants as copied;
@@ -44,7 +45,9 @@ pub fn join<S: CrashDisk, O: CrashDisk>(
 ) -> Joined
     requires { other.old.generation.number < number }
     ensures source_from { source.new.from ≡ source.old.from }
+    ensures source_disk { source.new.disk.ghost_name ≡ source.old.disk.ghost_name }
     ensures other_from { other.new.from ≡ other.old.from }
+    ensures other_disk { other.new.disk.ghost_name ≡ other.old.disk.ghost_name }
     ensures source_stop { source.new.may_stop ≡ source.old.may_stop }
     ensures other_stop { other.new.may_stop ≡ other.old.may_stop }
     ensures never_stops { source.old.may_stop ≡ false → other.old.may_stop ≡ false → result ≡ joined.Fault said.Stopped → ⊥ }
@@ -55,6 +58,7 @@ pub fn join<S: CrashDisk, O: CrashDisk>(
     ensures not_done { result ≡ joined.Fault said.Done → ⊥ }
     ensures raised { result ≡ joined.Both → source.new.generation.number ≡ number }
     ensures raised_alone { result ≡ joined.SourceAlone → source.new.generation.number ≡ number + 1 }
+    ensures small { result ≡ joined.SourceAlone → number < most_generation }
     ensures other_raised { result ≡ joined.Both → other.new.generation.number ≡ number }
     ensures other_stays { result ≡ joined.SourceAlone → other.new.generation ≡ other.old.generation }
     ensures source_stays { (result ≡ joined.Both) ⊎ (result ≡ joined.SourceAlone) → S.tells → Stays (content_behind (S.view source.old.disk.now)) (content_behind (S.view source.new.disk.now)) }
@@ -65,6 +69,8 @@ pub fn join<S: CrashDisk, O: CrashDisk>(
     ensures other_saved { result ≡ joined.Both → O.tells → (content_behind (O.view other.new.disk.now)).synced ≡ (content_behind (O.view other.new.disk.now)).gives }
     ensures other_known { result ≡ joined.Both → (n : ℕ) × (other.new.len ≡ Some n) }
     ensures alike { result ≡ joined.Both → S.tells → O.tells → HasHeader (O.view other.old.disk.now) → len ≡ length (content_behind (S.view source.old.disk.now)).gives → length (content_behind (O.view other.old.disk.now)).gives ≤ len → (content_behind (O.view other.new.disk.now)).gives ≡ (content_behind (S.view source.old.disk.now)).gives }
+    ensures source_have { (result ≡ joined.Both) ⊎ (result ≡ joined.SourceAlone) → S.tells → source.old.generation.number ≤ number → AllHave (S.view source.old.disk.now) source.old.generation → AllHave (S.view source.new.disk.now) source.new.generation }
+    ensures other_have { result ≡ joined.Both → O.tells → AllHave (O.view other.old.disk.now) other.old.generation → AllHave (O.view other.new.disk.now) other.new.generation }
     ensures most { result ≡ joined.Both → (n : ℕ) → source.old.most ≤ n → number ≤ n → source.new.most ≤ n }
     ensures most_alone { (n : ℕ) → source.old.most ≤ n → number < n → source.new.most ≤ n }
     ensures other_most { (n : ℕ) → other.old.most ≤ n → number ≤ n → other.new.most ≤ n }
@@ -93,9 +99,11 @@ fn without_other<S: CrashDisk>(source: &mut Half<'_, S>, fault: DiskAnswer, numb
     requires not_done { fault ≡ said.Done → ⊥ }
     ensures alone { result ≡ joined.SourceAlone → fault ≡ said.Failed }
     ensures raised { result ≡ joined.SourceAlone → source.new.generation.number ≡ number + 1 }
+    ensures small { result ≡ joined.SourceAlone → number < most_generation }
     ensures both { result ≡ joined.Both → ⊥ }
     ensures not_done { result ≡ joined.Fault said.Done → ⊥ }
     ensures from { source.new.from ≡ source.old.from }
+    ensures same_disk { source.new.disk.ghost_name ≡ source.old.disk.ghost_name }
     ensures stop { source.new.may_stop ≡ source.old.may_stop }
     ensures never_stops { source.old.may_stop ≡ false → (fault ≡ said.Stopped → ⊥) → result ≡ joined.Fault said.Stopped → ⊥ }
     ensures keeps { source.old.has_failed ≡ true → source.new.has_failed ≡ true }
@@ -104,6 +112,7 @@ fn without_other<S: CrashDisk>(source: &mut Half<'_, S>, fault: DiskAnswer, numb
     ensures synced { result ≡ joined.SourceAlone → S.tells → AllSynced (content_behind (S.view source.new.disk.now)) }
     ensures saved { result ≡ joined.SourceAlone → S.tells → (content_behind (S.view source.new.disk.now)).synced ≡ (content_behind (S.view source.new.disk.now)).gives }
     ensures known { result ≡ joined.SourceAlone → (n : ℕ) × (source.new.len ≡ Some n) }
+    ensures have { result ≡ joined.SourceAlone → S.tells → source.old.generation.number ≤ number → AllHave (S.view source.old.disk.now) source.old.generation → AllHave (S.view source.new.disk.now) source.new.generation }
     ensures most { (n : ℕ) → source.old.most ≤ n → number < n → source.new.most ≤ n }
 {
     if fault != DiskAnswer::Failed {
@@ -121,10 +130,12 @@ fn without_other<S: CrashDisk>(source: &mut Half<'_, S>, fault: DiskAnswer, numb
 /// Writes zeros from the content's end up to this place, and syncs, where it lies behind that end.
 pub fn lengthen<D: CrashDisk>(half: &mut Half<'_, D>, from: u64, to: u64) -> DiskAnswer
     ensures from { half.new.from ≡ half.old.from }
+    ensures same_disk { half.new.disk.ghost_name ≡ half.old.disk.ghost_name }
     ensures may_stop { half.new.may_stop ≡ half.old.may_stop }
     ensures failed { result ≡ said.Failed → half.new.has_failed ≡ true }
     ensures generation { half.new.generation ≡ half.old.generation }
     ensures most { half.new.most ≡ half.old.most }
+    ensures have { D.tells → AllHave (D.view half.old.disk.now) half.old.generation → AllHave (D.view half.new.disk.now) half.new.generation }
     ensures filled { result ≡ said.Done → D.tells → HasHeader (D.view half.old.disk.now) → from ≡ length (content_behind (D.view half.old.disk.now)).gives → (content_behind (D.view half.new.disk.now)).gives ≡ filled (content_behind (D.view half.old.disk.now)).gives to }
 {
     if to <= from {
@@ -154,7 +165,9 @@ fn copy<S: CrashDisk, O: CrashDisk>(
     ensures source_most { source.new.most ≡ source.old.most }
     ensures other_most { other.new.most ≡ other.old.most }
     ensures source_from { source.new.from ≡ source.old.from }
+    ensures source_disk { source.new.disk.ghost_name ≡ source.old.disk.ghost_name }
     ensures other_from { other.new.from ≡ other.old.from }
+    ensures other_disk { other.new.disk.ghost_name ≡ other.old.disk.ghost_name }
     ensures source_stop { source.new.may_stop ≡ source.old.may_stop }
     ensures other_stop { other.new.may_stop ≡ other.old.may_stop }
     ensures source_never { source.old.may_stop ≡ false → result ≡ copied.OfSource said.Stopped → ⊥ }
@@ -167,6 +180,8 @@ fn copy<S: CrashDisk, O: CrashDisk>(
     ensures other_failed { result ≡ copied.OfOther said.Failed → other.new.has_failed ≡ true }
     ensures source_rests { S.tells → Rested (content_behind (S.view source.old.disk.now)) (content_behind (S.view source.new.disk.now)) }
     ensures source_known { source.new.len ≡ source.old.len }
+    ensures source_have { S.tells → AllHave (S.view source.old.disk.now) source.old.generation → AllHave (S.view source.new.disk.now) source.new.generation }
+    ensures other_have { O.tells → AllHave (O.view other.old.disk.now) other.old.generation → AllHave (O.view other.new.disk.now) other.new.generation }
     ensures copied { result ≡ copied.Done → S.tells → O.tells → HasHeader (O.view other.old.disk.now) → len ≡ length (content_behind (S.view source.old.disk.now)).gives → length (content_behind (O.view other.old.disk.now)).gives ≤ len → (content_behind (O.view other.new.disk.now)).gives ≡ (content_behind (S.view source.old.disk.now)).gives }
 {
     let mut bytes = [0; PIECE_BYTES];

@@ -1,5 +1,5 @@
 // One disk of a mirror: its content stands behind a header.
-ghost use Rattle.std.specs.Prelude.{◌≡◌, ◌≤◌, ◌+◌, ℕ, List, [], ◌∷◌, None, Some, IfOk, IfSome, IsErrOf, length, max, true, false};
+ghost use Rattle.std.specs.Prelude.{◌≡◌, ◌≤◌, ◌+◌, ℕ, [], ◌∷◌, None, Some, IfOk, IfSome, IsErrOf, length, max, true, false};
 ghost use Rattle.ec_base.specs.Outside.{Rose};
 ghost use Rattle.ec_disk.specs.declared.disk.DiskAnswer.TheVariants as said;
 ghost use Rattle.ec_disk.specs.declared.disk.DiskLen.TheVariants as len;
@@ -7,6 +7,7 @@ ghost use Rattle.ec_disk.specs.Choices.{cut};
 ghost use Rattle.ec_disk.specs.Disk.{part};
 ghost use Rattle.ec_disk.specs.Effects.{InRange, written};
 ghost use Rattle.ec_half.specs.Contents.{IsHalf, HasHeader, HasLength, content_behind, Rested, Stays, Fewer, Loosened, AllSynced};
+ghost use Rattle.ec_half.specs.Headers.{AllHave};
 ghost use Rattle.ec_half.specs.OfSlots.Slots.{header_bytes};
 
 use crate::header::{Generation, HEADER_BYTES, raise};
@@ -39,6 +40,7 @@ impl<'a, D: CrashDisk> Half<'a, D> {
     pub fn new(disk: &'a mut D, generation: Generation) -> Half<'a, D>
         ensures disk { result.disk.now ≡ disk.old }
         ensures from { result.from.items ≡ disk.old ∷ [] }
+        ensures same_disk { result.disk.ghost_name ≡ disk.entry.ghost_name }
         ensures generation { result.generation ≡ generation }
         ensures most { result.most ≡ generation.number }
     {
@@ -74,10 +76,12 @@ impl<'a, D: CrashDisk> Half<'a, D> {
         ensures keeps { self.old.has_failed ≡ true → self.new.has_failed ≡ true }
         ensures generation { self.new.generation ≡ self.old.generation }
         ensures from { self.new.from ≡ self.old.from }
+        ensures same_disk { self.new.disk.ghost_name ≡ self.old.disk.ghost_name }
         ensures bytes { D.tells → result ≡ said.Done → into.new ≡ part (content_behind (D.view self.old.disk.now)).gives at (length into.old) }
         ensures rests { D.tells → Rested (content_behind (D.view self.old.disk.now)) (content_behind (D.view self.new.disk.now)) }
         ensures known { self.new.len ≡ self.old.len }
         ensures most { self.new.most ≡ self.old.most }
+        ensures have { D.tells → AllHave (D.view self.old.disk.now) self.old.generation → AllHave (D.view self.new.disk.now) self.new.generation }
     {
         let Some(place) = self.place_of(at, into.len()) else {
             return DiskAnswer::NoMemory;
@@ -95,11 +99,13 @@ impl<'a, D: CrashDisk> Half<'a, D> {
         ensures keeps { self.old.has_failed ≡ true → self.new.has_failed ≡ true }
         ensures generation { self.new.generation ≡ self.old.generation }
         ensures from { self.new.from ≡ self.old.from }
+        ensures same_disk { self.new.disk.ghost_name ≡ self.old.disk.ghost_name }
         ensures written { D.tells → result ≡ said.Done → HasHeader (D.view self.old.disk.now) → (content_behind (D.view self.new.disk.now)).gives ≡ written at piece.now (content_behind (D.view self.old.disk.now)).gives }
         ensures header { D.tells → result ≡ said.Done → HasHeader (D.view self.old.disk.now) → HasHeader (D.view self.new.disk.now) }
         ensures loosened { D.tells → Loosened (InRange at (length piece.now)) (content_behind (D.view self.old.disk.now)) (content_behind (D.view self.new.disk.now)) }
         ensures known { result ≡ said.Done → (n : ℕ) → self.old.len ≡ Some n → self.new.len ≡ Some (max n (at + length piece.now)) }
         ensures most { self.new.most ≡ self.old.most }
+        ensures have { D.tells → AllHave (D.view self.old.disk.now) self.old.generation → AllHave (D.view self.new.disk.now) self.new.generation }
     {
         let Some(end) = at.checked_add(piece.len() as u64) else {
             return DiskAnswer::NoMemory;
@@ -125,12 +131,14 @@ impl<'a, D: CrashDisk> Half<'a, D> {
         ensures keeps { self.old.has_failed ≡ true → self.new.has_failed ≡ true }
         ensures generation { self.new.generation ≡ self.old.generation }
         ensures from { self.new.from ≡ self.old.from }
+        ensures same_disk { self.new.disk.ghost_name ≡ self.old.disk.ghost_name }
         ensures stays { D.tells → Stays (content_behind (D.view self.old.disk.now)) (content_behind (D.view self.new.disk.now)) }
         ensures all_synced { D.tells → result ≡ said.Done → AllSynced (content_behind (D.view self.new.disk.now)) }
         ensures saved { D.tells → result ≡ said.Done → (content_behind (D.view self.new.disk.now)).synced ≡ (content_behind (D.view self.new.disk.now)).gives }
         ensures unsaved { D.tells → (result ≡ said.Done → ⊥) → (content_behind (D.view self.new.disk.now)).synced ≡ (content_behind (D.view self.old.disk.now)).synced }
         ensures known { self.new.len ≡ self.old.len }
         ensures most { self.new.most ≡ self.old.most }
+        ensures have { D.tells → AllHave (D.view self.old.disk.now) self.old.generation → AllHave (D.view self.new.disk.now) self.new.generation }
     {
         let answer = self.disk.sync();
         self.note(answer);
@@ -145,11 +153,13 @@ impl<'a, D: CrashDisk> Half<'a, D> {
         ensures keeps { self.old.has_failed ≡ true → self.new.has_failed ≡ true }
         ensures generation { self.new.generation ≡ self.old.generation }
         ensures from { self.new.from ≡ self.old.from }
+        ensures same_disk { self.new.disk.ghost_name ≡ self.old.disk.ghost_name }
         ensures len { D.tells → (n : ℕ) → result ≡ len.Len n → n ≡ length (content_behind (D.view self.old.disk.now)).gives }
         ensures header { D.tells → HasHeader (D.view self.old.disk.now) → HasHeader (D.view self.new.disk.now) }
         ensures rests { D.tells → Rested (content_behind (D.view self.old.disk.now)) (content_behind (D.view self.new.disk.now)) }
         ensures known { self.new.len ≡ self.old.len }
         ensures most { self.new.most ≡ self.old.most }
+        ensures have { D.tells → AllHave (D.view self.old.disk.now) self.old.generation → AllHave (D.view self.new.disk.now) self.new.generation }
     {
         if let Some(len) = self.len {
             return DiskLen::Len(len);
@@ -173,10 +183,12 @@ impl<'a, D: CrashDisk> Half<'a, D> {
         ensures raised { result ≡ said.Done → self.new.generation.number ≡ number }
         ensures generation { (result ≡ said.Done → ⊥) → self.new.generation ≡ self.old.generation }
         ensures from { self.new.from ≡ self.old.from }
+        ensures same_disk { self.new.disk.ghost_name ≡ self.old.disk.ghost_name }
         ensures stays { D.tells → result ≡ said.Done → Stays (content_behind (D.view self.old.disk.now)) (content_behind (D.view self.new.disk.now)) }
         ensures all_synced { D.tells → result ≡ said.Done → AllSynced (content_behind (D.view self.new.disk.now)) }
         ensures saved { D.tells → result ≡ said.Done → (content_behind (D.view self.new.disk.now)).synced ≡ (content_behind (D.view self.new.disk.now)).gives }
         ensures known { result ≡ said.Done → (n : ℕ) × (self.new.len ≡ Some n) }
+        ensures have { D.tells → result ≡ said.Done → self.old.generation.number ≤ number → AllHave (D.view self.old.disk.now) self.old.generation → AllHave (D.view self.new.disk.now) self.new.generation }
         ensures most { (n : ℕ) → self.old.most ≤ n → number ≤ n → self.new.most ≤ n }
     {
         let len = match self.known_len() {
@@ -202,11 +214,13 @@ impl<'a, D: CrashDisk> Half<'a, D> {
         ensures keeps { self.old.has_failed ≡ true → self.new.has_failed ≡ true }
         ensures generation { self.new.generation ≡ self.old.generation }
         ensures from { self.new.from ≡ self.old.from }
+        ensures same_disk { self.new.disk.ghost_name ≡ self.old.disk.ghost_name }
         ensures fewer { D.tells → Fewer (content_behind (D.view self.old.disk.now)) (content_behind (D.view self.new.disk.now)) }
         ensures leaves { D.tells → result ≡ said.Done → (content_behind (D.view self.new.disk.now)).gives ≡ cut choice (content_behind (D.view self.old.disk.now)).gives (content_behind (D.view self.old.disk.now)).synced }
         ensures all_synced { D.tells → result ≡ said.Done → AllSynced (content_behind (D.view self.new.disk.now)) }
         ensures saved { D.tells → result ≡ said.Done → (content_behind (D.view self.new.disk.now)).synced ≡ (content_behind (D.view self.new.disk.now)).gives }
         ensures most { self.new.most ≡ self.old.most }
+        ensures have { D.tells → AllHave (D.view self.old.disk.now) self.old.generation → AllHave (D.view self.new.disk.now) self.new.generation }
     {
         self.len = None;
         let answer = self.disk.power_cut(choice);
@@ -220,9 +234,11 @@ impl<'a, D: CrashDisk> Half<'a, D> {
         ensures failed { self.new.has_failed ≡ self.old.has_failed }
         ensures generation { self.new.generation ≡ self.old.generation }
         ensures from { self.new.from ≡ self.old.from }
+        ensures same_disk { self.new.disk.ghost_name ≡ self.old.disk.ghost_name }
         ensures rests { D.tells → Rested (content_behind (D.view self.old.disk.now)) (content_behind (D.view self.new.disk.now)) }
         ensures known { self.new.len ≡ self.old.len }
         ensures most { self.new.most ≡ self.old.most }
+        ensures have { D.tells → AllHave (D.view self.old.disk.now) self.old.generation → AllHave (D.view self.new.disk.now) self.new.generation }
     {
         self.disk.disarm();
         self.may_stop = false;
@@ -236,10 +252,12 @@ impl<'a, D: CrashDisk> Half<'a, D> {
         ensures keeps { self.old.has_failed ≡ true → self.new.has_failed ≡ true }
         ensures generation { self.new.generation ≡ self.old.generation }
         ensures from { self.new.from ≡ self.old.from }
+        ensures same_disk { self.new.disk.ghost_name ≡ self.old.disk.ghost_name }
         ensures not_done { IsErrOf result said.Done → ⊥ }
         ensures len { IfOk result (λ len. D.tells → HasLength (D.view self.new.disk.now) len) }
         ensures rests { D.tells → Rested (content_behind (D.view self.old.disk.now)) (content_behind (D.view self.new.disk.now)) }
         ensures known_still { self.new.len ≡ self.old.len }
+        ensures have { D.tells → AllHave (D.view self.old.disk.now) self.old.generation → AllHave (D.view self.new.disk.now) self.new.generation }
         ensures most { self.new.most ≡ self.old.most }
     {
         if let Some(len) = self.len {
@@ -264,9 +282,11 @@ impl<'a, D: CrashDisk> Half<'a, D> {
         ensures keeps { self.old.has_failed ≡ true → self.new.has_failed ≡ true }
         ensures generation { self.new.generation ≡ self.old.generation }
         ensures from { self.new.from ≡ self.old.from }
+        ensures same_disk { self.new.disk.ghost_name ≡ self.old.disk.ghost_name }
         ensures disk { self.new.disk.now ≡ self.old.disk.now }
         ensures known { self.new.len ≡ self.old.len }
         ensures most { self.new.most ≡ self.old.most }
+        ensures have { D.tells → AllHave (D.view self.old.disk.now) self.old.generation → AllHave (D.view self.new.disk.now) self.new.generation }
     {
         if answer == DiskAnswer::Failed {
             self.has_failed = true;

@@ -2,15 +2,15 @@
 ghost use Rattle.std.specs.Prelude.{◌≡◌, ◌<◌, ◌≤◌, ◌+◌, ℕ, Ok, Err, None, Some, IsOk, IfOk, IsErrOf, length};
 ghost use Rattle.std.specs.Int.{w64, from_be_bytes};
 ghost use Rattle.ec_disk.specs.Disk.{part};
-ghost use Rattle.ec_disk.specs.Effects.{Counted, IsSynced, Rests};
+ghost use Rattle.ec_disk.specs.Effects.{Counted, IsSynced, LeavesOnly, Rests};
 ghost use Rattle.ec_disk.specs.declared.disk.DiskAnswer.TheVariants as said;
 ghost use Rattle.ec_half.specs.Contents.{IsHalf, HasHeader, HasLength};
-ghost use Rattle.ec_half.specs.Headers.{ShowsHeader, IsNewest, IsFound, IsBad, IsNoHalf, IsFoundOf, MayBeHalf};
+ghost use Rattle.ec_half.specs.Headers.{ShowsHeader, IsNewest, IsFound, IsBad, IsNoHalf, IsFoundOf, MayBeHalf, AllHave, next_of};
 ghost use Rattle.ec_half.specs.declared.fault.MirrorFault.TheVariants as fault;
 ghost use Rattle.ec_half.specs.declared.header.Found.TheVariants as found;
 ghost use Rattle.ec_half.specs.declared.header.Generation.{Generation};
 ghost use Rattle.ec_half.specs.OfSlots.Contents.{content};
-ghost use Rattle.ec_half.specs.OfSlots.Slots.{header_bytes};
+ghost use Rattle.ec_half.specs.OfSlots.Slots.{HoldsEither, header_bytes, other};
 
 use crate::fault::{MirrorFault, done};
 use crate::slots::{Slot, write_open, write_shut};
@@ -42,10 +42,11 @@ pub struct Generation {
 
 impl Generation {
     ghost use Rattle.std.specs.Prelude.{◌≡◌};
+    ghost use Rattle.ec_half.specs.Headers.{next_of};
 
     /// The next one.
     pub fn next(self, number: u64) -> Generation
-        ensures { result.number ≡ number }
+        ensures { result ≡ next_of self number }
     {
         Generation {
             number,
@@ -60,6 +61,8 @@ pub fn raise<D: Disk>(disk: &mut D, present: Generation, number: u64) -> DiskAns
     ensures half { result ≡ said.Done → D.tells → (len : ℕ) → HasLength (D.view disk.old) len → IsHalf (D.view disk.new) len }
     ensures content { result ≡ said.Done → D.tells → HasHeader (D.view disk.old) → content (D.view disk.new).gives ≡ content (D.view disk.old).gives }
     ensures synced { result ≡ said.Done → D.tells → IsSynced (D.view disk.new) }
+    ensures any_moment { D.tells → present.number ≤ number → AllHave (D.view disk.old) present → LeavesOnly (D.view disk.old) (D.view disk.new) (HoldsEither (other present.slot) present.number number) }
+    ensures raised { result ≡ said.Done → D.tells → present.number ≤ number → AllHave (D.view disk.old) present → AllHave (D.view disk.new) (next_of present number) }
     ensures counts { Counted (D.counts disk.old) (D.counts disk.new) (result ≡ said.Failed) (result ≡ said.Stopped) }
 {
     let spare = present.slot.other();

@@ -34,6 +34,16 @@ number_stays : (s : Slot) (W : ℕ → Type 0) (x c : List ℕ) → 4096 ≤ len
 number_stays s W x c long loose out =
     ap (λ (l : List ℕ). from_be_bytes w64 l) (part-loose W x c (place_of s + 1) 8 loose (omega (arith, long, inside s)) (λ i from to. out i from (omega (arith, to))))
 
+-- writes behind the header
+pub behind-slots : (s : Slot) (is_open : Bool) (present : ℕ) (W : ℕ → Type 0) (x c : List ℕ) → SlotIsReady x s is_open present → Loose W x c → ((i : ℕ) → W i → 4096 ≤ i) → SlotIsReady c s is_open present
+behind-slots s is_open present W x c ready loose behind = record {
+  long = omega (arith, ready.long, loose.no_shorter);
+  present_open = gate_stays (other s) W x c ready.long loose (λ w. omega (arith, behind (place_of (other s)) w, inside (other s))) ∙ ready.present_open;
+  present_is = number_stays (other s) W x c ready.long loose (λ i from to w. omega (arith, behind i w, to, inside (other s))) ∙ ready.present_is;
+  spare_less = λ is. subst (λ (k : ℕ). k ≤ present) (sym (number_stays s W x c ready.long loose (λ i from to w. omega (arith, behind i w, to, inside s)))) (ready.spare_less is);
+  spare_shut = λ is gate. ready.spare_shut is (sym (gate_stays s W x c ready.long loose (λ w. omega (arith, behind (place_of s) w, inside s))) ∙ gate);
+}
+
 module _ (spare : Slot) (present : ℕ) where
   abbrev p : ℕ
   p = place_of spare

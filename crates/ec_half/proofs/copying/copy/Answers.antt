@@ -13,6 +13,8 @@ pub pieces-preserved : goal.pieces-preserved
 pieces-preserved g c = record {
   source_from = search rules;
   other_from = search rules;
+  source_disk = search rules;
+  other_disk = search rules;
   source_stop = search rules;
   other_stop = search rules;
   source_keeps = search rules;
@@ -23,6 +25,8 @@ pieces-preserved g c = record {
   other_keeps = search rules;
   source_rests = λ told. rested-then _ _ _ (c.pieces.invariant.source_rests told) (c.read.ensures.rests told);
   source_known = search rules;
+  source_have = λ told have. c.read.ensures.have told (c.pieces.invariant.source_have told have);
+  other_have = λ told have. c.write.ensures.have told (c.pieces.invariant.other_have told have);
   other_header = λ told long. c.write.ensures.header told c.in-Done-write.is (c.pieces.invariant.other_header told long);
   copied = λ source other long is fits.
       copied-piece c.pieces.at c.min-count.result _ c.read.new.into (content_behind (g.S.Disk.view c.args.source.now.disk.now)).gives (content_behind (g.S.Disk.view c.pieces.source.disk.now)).gives (content_behind (g.O.Disk.view c.pieces.other.disk.now)).gives

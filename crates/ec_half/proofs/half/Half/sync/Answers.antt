@@ -1,6 +1,7 @@
 use Rattle.std.proofs.Common.{◌≡◌, sym, subst}
 use Rattle.ec_half.specs.Contents.{Stays, AllSynced, content_behind, behind-stays, behind-synced}
 use Rattle.ec_half.proofs.Halves.{saves-done, saves-not}
+use Rattle.ec_half.proofs.Raises.{have-fewer}
 use Rattle.ec_half.proofs.half.Half.sync.Goals as goal
 
 pub returns-clause-stays : goal.returns-clause-stays
@@ -18,3 +19,6 @@ returns-clause-saved g c told is =
 pub returns-clause-unsaved : goal.returns-clause-unsaved
 returns-clause-unsaved g c told not =
     subst (λ d. (content_behind (g.D.Disk.view d)).synced ≡ (content_behind (g.D.Disk.view c.args.self.now.disk.now)).synced) (sym c.note.ensures.disk) (saves-not c.sync-answer.result (g.D.Disk.view c.args.self.now.disk.now) (g.D.Disk.view c.sync-answer.new.self) not (c.sync-answer.ensures.saved told))
+
+pub returns-clause-have : goal.returns-clause-have
+returns-clause-have g c told have = c.note.ensures.have told (have-fewer (g.D.Disk.view c.args.self.now.disk.now) (g.D.Disk.view c.sync-answer.new.self) c.args.self.now.generation have (c.sync-answer.ensures.rests told).crash)

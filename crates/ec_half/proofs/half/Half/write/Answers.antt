@@ -3,6 +3,7 @@ use Rattle.ec_disk.specs.declared.disk.DiskAnswer.TheVariants as said
 use Rattle.ec_disk.specs.Effects.{InRange}
 use Rattle.ec_half.specs.Contents.{Loosened, content_behind, loosened-same}
 use Rattle.ec_half.proofs.Halves.{half-grown, some_is, written-behind, header-stays, loosened-behind}
+use Rattle.ec_half.proofs.Raises.{have-wrote}
 use Rattle.ec_half.proofs.half.Half.write.Goals as goal
 
 pub invariant_of-self-2-clause-whole : goal.invariant_of-self-2-clause-whole
@@ -41,3 +42,14 @@ pub returns-clause-loosened : goal.returns-clause-loosened
 returns-clause-loosened g c told =
     loosened-behind c.args.at c.in-Some-checked_add.place (length c.args.piece.now) (g.D.Disk.view c.args.self.now.disk.now) (g.D.Disk.view c.write_at-answer.new.self)
     (some_is c.checked_add-2.result _ (c.args.at + 4096) c.in-Some-checked_add.place c.checked_add-2.ensures c.in-Some-checked_add.is) (c.write_at-answer.ensures.wrote told) (c.write_at-answer.ensures.kept told)
+
+pub returns-then-ne-clause-have : goal.returns-then-ne-clause-have
+returns-then-ne-clause-have g c told have =
+    c.note.ensures.have told
+    (have-wrote c.args.at c.in-Some-checked_add.place (length c.args.piece.now) (g.D.Disk.view c.args.self.now.disk.now) (g.D.Disk.view c.write_at-answer.new.self) c.args.self.now.generation
+    (some_is c.checked_add-2.result _ (c.args.at + 4096) c.in-Some-checked_add.place c.checked_add-2.ensures c.in-Some-checked_add.is) (c.write_at-answer.ensures.wrote told) have)
+
+pub returns-clause-have : goal.returns-clause-have
+returns-clause-have g c told have =
+    have-wrote c.args.at c.in-Some-checked_add.place (length c.args.piece.now) (g.D.Disk.view c.args.self.now.disk.now) (g.D.Disk.view c.write_at-answer.new.self) c.args.self.now.generation
+    (some_is c.checked_add-2.result _ (c.args.at + 4096) c.in-Some-checked_add.place c.checked_add-2.ensures c.in-Some-checked_add.is) (c.write_at-answer.ensures.wrote told) have
