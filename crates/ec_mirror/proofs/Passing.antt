@@ -1,7 +1,6 @@
 -- How a mirror's view changes from call to call.
 use Rattle.std.specs.Prelude.{◌≡◌, ◌⊎◌, ◌+◌, ◌≤◌, ℕ, zero, suc, List, [], ◌∷◌, ◌++◌, length, Option, Some, None, slice_get}
-use Rattle.std.proofs.Common.{inl, inr, ⊎_elim, refl, arith, length-append, ap, sym, subst, ◌∙◌}
-use Rattle.ec_disk.specs.Disk.{View}
+use Rattle.std.proofs.Common.{inl, inr, ⊎_elim, refl, arith, length-append, sym, subst}
 use Rattle.ec_disk.specs.Choices.{Saves}
 use Rattle.ec_disk.specs.Effects.{Elapses, Rests, Wrote, Cut}
 use Rattle.ec_disk.specs.declared.disk.DiskAnswer.{DiskAnswer}

@@ -1,17 +1,16 @@
 -- What becomes of the content that two disks show as one, from what becomes of each.
-use Rattle.std.specs.Prelude.{◌≡◌, ◌⊎◌, ℕ, List, [], ◌∷◌, Bool, true, false, Option, Some, None, length}
-use Rattle.std.proofs.Common.{inl, inr, ⊎_elim, refl, sym, subst, ◌∙◌, ap}
-use Rattle.ec_disk.specs.Disk.{View}
+use Rattle.std.specs.Prelude.{◌≡◌, ◌⊎◌, ℕ, List}
+use Rattle.std.proofs.Common.{inl, inr, ⊎_elim, refl, sym, subst, ◌∙◌}
 use Rattle.ec_disk.specs.Effects.{Loose}
 use Rattle.ec_disk.specs.Runs.{loose-same, loose-then}
 use Rattle.ec_disk.specs.declared.disk.DiskAnswer.{DiskAnswer}
 use Rattle.ec_disk.specs.declared.disk.DiskAnswer.TheVariants as said
 use Rattle.ec_disk.specs.declared.disk.DiskLen.{DiskLen}
 use Rattle.ec_disk.specs.declared.disk.DiskLen.TheVariants as len
-use Rattle.ec_half.specs.Contents.{Content, content_behind, Rested, Stays, Fewer, Loosened, AllSynced, rested-same, stays-then}
+use Rattle.ec_half.specs.Contents.{Content, Rested, Stays, Fewer, Loosened, AllSynced, stays-then}
 use Rattle.ec_mirror.specs.Joins.{lead}
 use Rattle.ec_mirror.specs.Moments.{shown-given}
-use Rattle.ec_mirror.specs.Shown.{LeftOf, shown, IsWhole, IsSaved, Syncs}
+use Rattle.ec_mirror.specs.Shown.{LeftOf, shown, IsSaved, Syncs}
 use Rattle.ec_mirror.specs.declared.kept.Kept.{Kept}
 use Rattle.ec_mirror.specs.declared.kept.Kept.TheVariants as left
 

@@ -1,5 +1,5 @@
 -- What a turn does to a mirror's counts.
-use Rattle.std.proofs.Common.{◌≡◌, ◌≤◌, ℕ, Option, Some, None, inr, refl, sym, ◌∙◌, subst, arith}
+use Rattle.std.proofs.Common.{◌≡◌, ◌≤◌, ℕ, Bool, Option, Some, None, inr, refl, sym, ◌∙◌, subst, arith}
 use Rattle.std.specs.Prelude.{IsSome}
 use Rattle.std.proofs.lemmas.Bool.Decides.{nat_tests}
 use Rattle.ec_base.specs.Outside.{one_more}
@@ -90,13 +90,20 @@ told_counts said.Failed t = record {
 told_counts said.Stopped t = nothing t _ (λ e. absurd (grind (arith, e)))
 told_counts said.NoMemory t = nothing t _ (λ e. absurd (grind (arith, e)))
 
+told_stays : (answer : DiskAnswer) (t : Tally) → (told answer t).failed_alone ≡ t.failed_alone
+told_stays said.Done t = refl
+told_stays said.Failed t = refl
+told_stays said.Stopped t = refl
+told_stays said.NoMemory t = refl
+
 -- behind such a turn
-module _ (old mid : Tally) (G S : Type 0) (counts : Counted (counts_of old) (counts_of mid) ⊥ S) (down : CountsDown old.armed mid.armed G S) (due : IsDue old.armed → G → ⊥) (call : mid.calls ≡ one_more old.calls) where
+module _ (old mid : Tally) (G S : Type 0) (counts : Counted (counts_of old) (counts_of mid) ⊥ S) (down : CountsDown old.armed mid.armed G S) (due : IsDue old.armed → G → ⊥) (call : mid.calls ≡ one_more old.calls) (alone : mid.failed_alone ≡ old.failed_alone) where
   pub turned_on : (answer : DiskAnswer) (new : Tally) → G → (answer ≡ said.Stopped → ⊥) → new ≡ told answer mid → TallyTurned answer old new
   turned_on answer new goes never is = subst (λ (t : Tally). TallyTurned answer old t) (sym is) record {
     counts = counted_both (counts_of old) (counts_of mid) (counts_of (told answer mid)) ⊥ S (answer ≡ said.Failed) ⊥ (answer ≡ said.Failed) (answer ≡ said.Stopped) counts (told_counts answer mid) (λ f. inr f) (λ s. absurd (never s));
     armed = record { next = told_armed answer mid ∙ down.next; stops = λ s. absurd (never s); goes = λ d. λ is_due. due is_due goes };
     call = told_calls answer mid ∙ call;
+    alone = told_stays answer mid ∙ alone;
   }
 
   pub turned_off : (answer : DiskAnswer) (new : Tally) → S → (answer ≡ said.Done → ⊥) → (answer ≡ said.Failed → ⊥) → new ≡ mid → TallyTurned answer old new
@@ -113,6 +120,7 @@ module _ (old mid : Tally) (G S : Type 0) (counts : Counted (counts_of old) (cou
     };
     armed = record { next = down.next; stops = λ s. down.stops stops; goes = λ d. absurd (not_done d) };
     call = call;
+    alone = alone;
   }
 
 pub stopped-not-done : (answer : DiskAnswer) → answer ≡ said.Stopped → answer ≡ said.Done → ⊥
@@ -122,8 +130,8 @@ pub stopped-not-failed : (answer : DiskAnswer) → answer ≡ said.Stopped → a
 stopped-not-failed answer stopped failed = absurd (grind (arith, stopped, failed))
 
 -- behind a power cut
-pub cut_counts : (answer : DiskAnswer) (t : Tally) → (answer ≡ said.Stopped → ⊥) → Counted (counts_of t) (counts_of (behind_cut answer t)) (answer ≡ said.Failed) (answer ≡ said.Stopped)
-cut_counts said.Done t never = record {
+pub cut_counts : (answer : DiskAnswer) (alone : Bool) (t : Tally) → (answer ≡ said.Stopped → ⊥) → Counted (counts_of t) (counts_of (behind_cut answer alone t)) (answer ≡ said.Failed) (answer ≡ said.Stopped)
+cut_counts said.Done alone t never = record {
   faults_later = omega arith;
   stops_later = omega arith;
   failed = λ f. absurd (grind (arith, f));
@@ -133,7 +141,7 @@ cut_counts said.Done t never = record {
   stays = λ over. tt;
   over = λ s. absurd (never s);
 }
-cut_counts said.Failed t never = record {
+cut_counts said.Failed alone t never = record {
   faults_later = more t.faults;
   stops_later = omega arith;
   failed = λ f. omega arith;
@@ -146,8 +154,8 @@ cut_counts said.Failed t never = record {
   where
     more : (n : ℕ) → n ≤ one_more n
     more n = grind (arith, nat_tests)
-cut_counts said.Stopped t never = absurd (never refl)
-cut_counts said.NoMemory t never = record {
+cut_counts said.Stopped alone t never = absurd (never refl)
+cut_counts said.NoMemory alone t never = record {
   faults_later = omega arith;
   stops_later = omega arith;
   failed = λ f. absurd (grind (arith, f));
@@ -158,8 +166,14 @@ cut_counts said.NoMemory t never = record {
   over = λ s. absurd (never s);
 }
 
-pub cut_calls : (answer : DiskAnswer) (t : Tally) → (behind_cut answer t).calls ≡ t.calls
-cut_calls said.Done t = refl
-cut_calls said.Failed t = refl
-cut_calls said.Stopped t = refl
-cut_calls said.NoMemory t = refl
+pub cut_calls : (answer : DiskAnswer) (alone : Bool) (t : Tally) → (behind_cut answer alone t).calls ≡ t.calls
+cut_calls said.Done alone t = refl
+cut_calls said.Failed alone t = refl
+cut_calls said.Stopped alone t = refl
+cut_calls said.NoMemory alone t = refl
+
+pub cut_stays : (answer : DiskAnswer) (alone : Bool) (t : Tally) → (answer ≡ said.Failed → ⊥) → (behind_cut answer alone t).failed_alone ≡ t.failed_alone
+cut_stays said.Done alone t out = refl
+cut_stays said.Failed alone t out = absurd (out refl)
+cut_stays said.Stopped alone t out = refl
+cut_stays said.NoMemory alone t out = refl

@@ -1,6 +1,6 @@
 -- The disks of a mirror behind a call: known, alike, and saved.
-use Rattle.std.specs.Prelude.{◌≡◌, ℕ, List, [], Bool, true, false, Option, Some, None}
-use Rattle.std.proofs.Common.{refl, sym, ◌∙◌, ap}
+use Rattle.std.specs.Prelude.{◌≡◌, ◌⊎◌, ℕ, List, [], Bool, true, false, Option, Some, None}
+use Rattle.std.proofs.Common.{inl, inr, refl, sym, ◌∙◌, ap}
 use Rattle.ec_disk.specs.Disk.{View}
 use Rattle.ec_half.specs.Contents.{Content, Rested, AllSynced, synced-rested, IsHalf, HasHeader}
 use Rattle.ec_mirror.specs.Joins.{lead}
@@ -167,3 +167,8 @@ whole-for told more kept a b m n dirty saved by whole = record { first_known = w
 -- the header is there where the length is known
 pub has-header : (now : View) (n : ℕ) → IsHalf now n → now.may_leave now.gives → HasHeader now
 has-header now n half given = half.long now.gives given
+
+-- one of two has failed
+pub one-of : (a b : Bool) (P Q : Type 0) → (a ≡ false → b ≡ true) → (a ≡ true → P) → (b ≡ true → Q) → P ⊎ Q
+one-of true b P Q other first second = inl (first refl)
+one-of false b P Q other first second = inr (second (other refl))

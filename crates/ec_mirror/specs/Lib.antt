@@ -3,5 +3,6 @@ pub mod Moments
 pub mod Numbers
 pub mod Past
 pub mod PastLaws
+pub mod Disks
 pub mod Shown
 pub mod Tally

@@ -1,10 +1,9 @@
 -- What a mirror shows at one moment.
-use Rattle.std.specs.Prelude.{◌≡◌, ◌⊎◌, ℕ, List, [], ◌∷◌, ◌++◌, length, Bool, true, false, Option, Some}
-use Rattle.std.proofs.Common.{inl, inr, refl, sym, subst, ◌∙◌, ap}
+use Rattle.std.specs.Prelude.{◌≡◌, ℕ, List, [], ◌∷◌, length}
+use Rattle.std.proofs.Common.{inl, inr, refl, ap}
 use Rattle.ec_disk.specs.Disk.{View}
-use Rattle.ec_half.specs.Contents.{Content, content_behind, Rested, Stays, Fewer, Loosened, AllSynced}
-use Rattle.ec_mirror.specs.Joins.{lead}
-use Rattle.ec_mirror.specs.Shown.{first_of, second_of, given_by, saved_by, shown_by, shown_of, shown, LeftOf}
+use Rattle.ec_half.specs.Contents.{Content, content_behind}
+use Rattle.ec_mirror.specs.Shown.{first_of, second_of, saved_by, shown_by, shown_of, shown}
 use Rattle.ec_mirror.specs.declared.kept.Kept.{Kept}
 use Rattle.ec_mirror.specs.declared.kept.Kept.TheVariants as left
 use Rattle.ec_mirror.specs.declared.pair.Pair.{Pair}

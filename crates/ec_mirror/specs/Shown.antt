@@ -1,5 +1,5 @@
 -- What the two disks of a mirror show as one.
-use Rattle.std.specs.Prelude.{◌≡◌, ◌⊎◌, ℕ, List, [], ◌∷◌, Bool, false, Option, None}
+use Rattle.std.specs.Prelude.{◌≡◌, ◌⊎◌, ℕ, List, [], ◌∷◌, Bool, true, false, Option, None}
 use Rattle.ec_disk.specs.Disk.{View}
 use Rattle.ec_disk.specs.declared.disk.DiskAnswer.{DiskAnswer}
 use Rattle.ec_disk.specs.declared.disk.DiskAnswer.TheVariants as said
@@ -75,3 +75,27 @@ module _ {A B : Type 0} {p : _} {q : _} {r : _} {s : _} (first : A → View) (se
 
   abbrev pub IsSavedAt : Type 0 → Moment A B p q r s → Type 0
   IsSavedAt told m = IsSaved told m.pair.kept (first_of m.pair) (second_of m.pair)
+
+-- The borrows of both disks by their names, and each disk as it was handed in.
+pub record Lent (A B : Type 0) : Type 0 where
+  pub first : ℕ
+  pub first_from : List A
+  pub second : ℕ
+  pub second_from : List B
+
+-- each disk is still the one that was handed in
+module _ {A B : Type 0} {p : _} {q : _} {r : _} {s : _} where
+  abbrev pub lent_of : Pair A B p q r s → Lent A B
+  lent_of pair = record {
+    first = pair.first.disk.ghost_name;
+    first_from = pair.first.from.items;
+    second = pair.second.disk.ghost_name;
+    second_from = pair.second.from.items;
+  }
+
+  abbrev pub SameDisks : Pair A B p q r s → Pair A B p q r s → Type 0
+  SameDisks old new = lent_of new ≡ lent_of old
+
+  -- and a call that is done leaves the mirror sound
+  abbrev pub StaysSound : DiskAnswer → Pair A B p q r s → Pair A B p q r s → Bool → Type 0
+  StaysSound answer old new is_sound = SameDisks old new × (answer ≡ said.Done → is_sound ≡ true)

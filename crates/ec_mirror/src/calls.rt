@@ -7,8 +7,8 @@ ghost use Rattle.ec_disk.specs.declared.disk.DiskAnswer.TheVariants as said;
 ghost use Rattle.ec_disk.specs.declared.disk.DiskLen.TheVariants as len;
 ghost use Rattle.ec_half.specs.Contents.{Rested, Loosened};
 ghost use Rattle.ec_mirror.specs.declared.kept.Kept.TheVariants as left;
-ghost use Rattle.ec_mirror.specs.Shown.{shown_of, IsWholeAt, IsSavedAt, Syncs};
-ghost use Rattle.ec_mirror.specs.Tally.{counts_of, told, TallyTurned};
+ghost use Rattle.ec_mirror.specs.Shown.{shown_of, IsWholeAt, IsSavedAt, Syncs, SameDisks, StaysSound};
+ghost use Rattle.ec_mirror.specs.Tally.{counts_of, told, told_alone, TallyTurned};
 
 use crate::kept::Kept;
 use crate::parts::Parts;
@@ -21,6 +21,7 @@ impl<'a, A: CrashDisk, B: CrashDisk> Parts<'a, A, B> {
         ensures due { IsDue self.old.tally.armed → result ≡ said.Stopped }
         ensures bytes { A.tells × B.tells → result ≡ said.Done → into.new ≡ part (shown_of A.view B.view self.old.present).gives at (length into.old) }
         ensures rests { A.tells × B.tells → Rested (shown_of A.view B.view self.old.present) (shown_of A.view B.view self.new.present) }
+        ensures goes { StaysSound result self.old.present.pair self.new.present.pair self.new.is_sound }
     {
         match self.tally.next() {
             Turn::Goes => self.read(at, into),
@@ -33,6 +34,7 @@ impl<'a, A: CrashDisk, B: CrashDisk> Parts<'a, A, B> {
         ensures written { A.tells × B.tells → result ≡ said.Done → (shown_of A.view B.view self.new.present).gives ≡ written at piece.now (shown_of A.view B.view self.old.present).gives }
         ensures stopped { A.tells × B.tells → result ≡ said.Stopped → (shown_of A.view B.view self.new.present).gives ≡ written at piece.now (shown_of A.view B.view self.old.present).gives }
         ensures loosened { A.tells × B.tells → Loosened (InRange at (length piece.now)) (shown_of A.view B.view self.old.present) (shown_of A.view B.view self.new.present) }
+        ensures goes { StaysSound result self.old.present.pair self.new.present.pair self.new.is_sound }
     {
         match self.tally.next() {
             Turn::Goes => self.write(at, piece),
@@ -44,6 +46,7 @@ impl<'a, A: CrashDisk, B: CrashDisk> Parts<'a, A, B> {
         ensures turned { TallyTurned result self.old.tally self.new.tally }
         ensures due { IsDue self.old.tally.armed → result ≡ said.Stopped }
         ensures syncs { A.tells × B.tells → Syncs result (shown_of A.view B.view self.old.present) (shown_of A.view B.view self.new.present) }
+        ensures goes { StaysSound result self.old.present.pair self.new.present.pair self.new.is_sound }
     {
         match self.tally.next() {
             Turn::Goes => self.sync_kept(),
@@ -58,8 +61,10 @@ impl<'a, A: CrashDisk, B: CrashDisk> Parts<'a, A, B> {
         ensures stopped { result ≡ len.Stopped → self.old.tally.armed ≡ Some 0 }
         ensures answers { (n : ℕ) → result ≡ len.Len n → self.old.tally.armed ≡ Some 0 → ⊥ }
         ensures call { self.new.tally.calls ≡ one_more self.old.tally.calls }
+        ensures alone { (result ≡ len.Failed → ⊥) → self.new.tally.failed_alone ≡ self.old.tally.failed_alone }
         ensures len { A.tells × B.tells → (n : ℕ) → result ≡ len.Len n → n ≡ length (shown_of A.view B.view self.old.present).gives }
         ensures rests { A.tells × B.tells → Rested (shown_of A.view B.view self.old.present) (shown_of A.view B.view self.new.present) }
+        ensures goes { SameDisks self.old.present.pair self.new.present.pair × (self.new.is_sound ≡ self.old.is_sound) }
     {
         if self.tally.next_len() {
             return DiskLen::Stopped;
@@ -74,10 +79,11 @@ impl<'a, A: CrashDisk, B: CrashDisk> Parts<'a, A, B> {
     fn ask_len(&mut self) -> DiskLen
         requires lives { self.old.is_dead ≡ false }
         ensures never_stops { result ≡ len.Stopped → ⊥ }
-        ensures tally { result ≡ len.Failed → self.new.tally ≡ told said.Failed self.old.tally }
+        ensures tally { result ≡ len.Failed → self.new.tally ≡ told_alone self.new.tally.failed_alone self.old.tally }
         ensures same { (result ≡ len.Failed → ⊥) → self.new.tally ≡ self.old.tally }
         ensures len { A.tells × B.tells → (n : ℕ) → result ≡ len.Len n → n ≡ length (shown_of A.view B.view self.old.present).gives }
         ensures rests { A.tells × B.tells → Rested (shown_of A.view B.view self.old.present) (shown_of A.view B.view self.new.present) }
+        ensures goes { SameDisks self.old.present.pair self.new.present.pair × (self.new.is_sound ≡ self.old.is_sound) }
     {
         match self.present.pair.kept {
             Kept::Both | Kept::Leaving | Kept::First => self.ask_first(),
@@ -89,10 +95,11 @@ impl<'a, A: CrashDisk, B: CrashDisk> Parts<'a, A, B> {
         requires lives { self.old.is_dead ≡ false }
         requires kept { self.old.present.pair.kept ≡ left.Second → ⊥ }
         ensures never_stops { result ≡ len.Stopped → ⊥ }
-        ensures tally { result ≡ len.Failed → self.new.tally ≡ told said.Failed self.old.tally }
+        ensures tally { result ≡ len.Failed → self.new.tally ≡ told_alone self.new.tally.failed_alone self.old.tally }
         ensures same { (result ≡ len.Failed → ⊥) → self.new.tally ≡ self.old.tally }
         ensures len { A.tells × B.tells → (n : ℕ) → result ≡ len.Len n → n ≡ length (shown_of A.view B.view self.old.present).gives }
         ensures rests { A.tells × B.tells → Rested (shown_of A.view B.view self.old.present) (shown_of A.view B.view self.new.present) }
+        ensures goes { SameDisks self.old.present.pair self.new.present.pair × (self.new.is_sound ≡ self.old.is_sound) }
     {
         let len = self.present.pair.first.len();
         if len == DiskLen::Failed {
@@ -106,10 +113,11 @@ impl<'a, A: CrashDisk, B: CrashDisk> Parts<'a, A, B> {
         requires lives { self.old.is_dead ≡ false }
         requires kept { self.old.present.pair.kept ≡ left.Second }
         ensures never_stops { result ≡ len.Stopped → ⊥ }
-        ensures tally { result ≡ len.Failed → self.new.tally ≡ told said.Failed self.old.tally }
+        ensures tally { result ≡ len.Failed → self.new.tally ≡ told_alone self.new.tally.failed_alone self.old.tally }
         ensures same { (result ≡ len.Failed → ⊥) → self.new.tally ≡ self.old.tally }
         ensures len { A.tells × B.tells → (n : ℕ) → result ≡ len.Len n → n ≡ length (shown_of A.view B.view self.old.present).gives }
         ensures rests { A.tells × B.tells → Rested (shown_of A.view B.view self.old.present) (shown_of A.view B.view self.new.present) }
+        ensures goes { SameDisks self.old.present.pair self.new.present.pair × (self.new.is_sound ≡ self.old.is_sound) }
     {
         let len = self.present.pair.second.len();
         if len == DiskLen::Failed {
@@ -124,6 +132,7 @@ impl<'a, A: CrashDisk, B: CrashDisk> Parts<'a, A, B> {
         ensures tally { self.new.tally ≡ told result self.old.tally }
         ensures bytes { A.tells × B.tells → result ≡ said.Done → into.new ≡ part (shown_of A.view B.view self.old.present).gives at (length into.old) }
         ensures rests { A.tells × B.tells → Rested (shown_of A.view B.view self.old.present) (shown_of A.view B.view self.new.present) }
+        ensures goes { StaysSound result self.old.present.pair self.new.present.pair self.new.is_sound }
     {
         if !self.is_sound {
             return DiskAnswer::NoMemory;
@@ -144,6 +153,7 @@ impl<'a, A: CrashDisk, B: CrashDisk> Parts<'a, A, B> {
         ensures tally { self.new.tally ≡ told result self.old.tally }
         ensures bytes { A.tells × B.tells → result ≡ said.Done → into.new ≡ part (shown_of A.view B.view self.old.present).gives at (length into.old) }
         ensures rests { A.tells × B.tells → Rested (shown_of A.view B.view self.old.present) (shown_of A.view B.view self.new.present) }
+        ensures goes { StaysSound result self.old.present.pair self.new.present.pair self.new.is_sound }
     {
         match self.present.pair.first.read(at, into) {
             DiskAnswer::Failed => {}
@@ -162,6 +172,7 @@ impl<'a, A: CrashDisk, B: CrashDisk> Parts<'a, A, B> {
         ensures tally { self.new.tally ≡ told result self.old.tally }
         ensures bytes { A.tells × B.tells → result ≡ said.Done → into.new ≡ part (shown_of A.view B.view self.old.present).gives at (length into.old) }
         ensures rests { A.tells × B.tells → Rested (shown_of A.view B.view self.old.present) (shown_of A.view B.view self.new.present) }
+        ensures goes { StaysSound result self.old.present.pair self.new.present.pair self.new.is_sound }
     {
         let answer = self.present.pair.first.read(at, into);
         self.settle(answer)
@@ -174,6 +185,7 @@ impl<'a, A: CrashDisk, B: CrashDisk> Parts<'a, A, B> {
         ensures tally { self.new.tally ≡ told result self.old.tally }
         ensures bytes { A.tells × B.tells → result ≡ said.Done → into.new ≡ part (shown_of A.view B.view self.old.present).gives at (length into.old) }
         ensures rests { A.tells × B.tells → Rested (shown_of A.view B.view self.old.present) (shown_of A.view B.view self.new.present) }
+        ensures goes { StaysSound result self.old.present.pair self.new.present.pair self.new.is_sound }
     {
         let answer = self.present.pair.second.read(at, into);
         self.settle(answer)
@@ -184,6 +196,7 @@ impl<'a, A: CrashDisk, B: CrashDisk> Parts<'a, A, B> {
         ensures tally { self.new.tally ≡ told result self.old.tally }
         ensures written { A.tells × B.tells → result ≡ said.Done → (shown_of A.view B.view self.new.present).gives ≡ written at piece.now (shown_of A.view B.view self.old.present).gives }
         ensures loosened { A.tells × B.tells → Loosened (InRange at (length piece.now)) (shown_of A.view B.view self.old.present) (shown_of A.view B.view self.new.present) }
+        ensures goes { StaysSound result self.old.present.pair self.new.present.pair self.new.is_sound }
     {
         if !self.is_sound {
             return DiskAnswer::NoMemory;
@@ -204,6 +217,7 @@ impl<'a, A: CrashDisk, B: CrashDisk> Parts<'a, A, B> {
         ensures tally { self.new.tally ≡ told result self.old.tally }
         ensures written { A.tells × B.tells → result ≡ said.Done → (shown_of A.view B.view self.new.present).gives ≡ written at piece.now (shown_of A.view B.view self.old.present).gives }
         ensures loosened { A.tells × B.tells → Loosened (InRange at (length piece.now)) (shown_of A.view B.view self.old.present) (shown_of A.view B.view self.new.present) }
+        ensures goes { StaysSound result self.old.present.pair self.new.present.pair self.new.is_sound }
     {
         self.is_sound = false;
         match self.present.pair.first.write(at, piece) {
@@ -231,6 +245,7 @@ impl<'a, A: CrashDisk, B: CrashDisk> Parts<'a, A, B> {
         ensures tally { self.new.tally ≡ told result self.old.tally }
         ensures written { A.tells × B.tells → result ≡ said.Done → (shown_of A.view B.view self.new.present).gives ≡ written at piece.now (shown_of A.view B.view self.old.present).gives }
         ensures loosened { A.tells × B.tells → Loosened (InRange at (length piece.now)) (shown_of A.view B.view self.old.present) (shown_of A.view B.view self.new.present) }
+        ensures goes { StaysSound result self.old.present.pair self.new.present.pair self.new.is_sound }
     {
         self.is_sound = false;
         let answer = self.present.pair.first.write(at, piece);
@@ -245,6 +260,7 @@ impl<'a, A: CrashDisk, B: CrashDisk> Parts<'a, A, B> {
         ensures tally { self.new.tally ≡ told result self.old.tally }
         ensures written { A.tells × B.tells → result ≡ said.Done → (shown_of A.view B.view self.new.present).gives ≡ written at piece.now (shown_of A.view B.view self.old.present).gives }
         ensures loosened { A.tells × B.tells → Loosened (InRange at (length piece.now)) (shown_of A.view B.view self.old.present) (shown_of A.view B.view self.new.present) }
+        ensures goes { StaysSound result self.old.present.pair self.new.present.pair self.new.is_sound }
     {
         self.is_sound = false;
         let answer = self.present.pair.second.write(at, piece);
@@ -257,6 +273,7 @@ impl<'a, A: CrashDisk, B: CrashDisk> Parts<'a, A, B> {
         requires failed { answer ≡ said.Failed → (self.old.present.pair.first.has_failed ≡ true) × (self.old.present.pair.second.has_failed ≡ true) }
         requires whole { answer ≡ said.Done → IsWholeAt A.view B.view (A.tells × B.tells) true self.old.present }
         ensures answer { result ≡ answer }
+        ensures sound { answer ≡ said.Done → self.new.is_sound ≡ true }
         ensures tally { self.new.tally ≡ told answer self.old.tally }
         ensures present { self.new.present ≡ self.old.present }
     {
@@ -272,6 +289,7 @@ impl<'a, A: CrashDisk, B: CrashDisk> Parts<'a, A, B> {
         ensures never_stops { result ≡ said.Stopped → ⊥ }
         ensures tally { self.new.tally ≡ told result self.old.tally }
         ensures syncs { A.tells × B.tells → Syncs result (shown_of A.view B.view self.old.present) (shown_of A.view B.view self.new.present) }
+        ensures goes { StaysSound result self.old.present.pair self.new.present.pair self.new.is_sound }
     {
         if !self.is_sound {
             return DiskAnswer::NoMemory;
@@ -290,6 +308,7 @@ impl<'a, A: CrashDisk, B: CrashDisk> Parts<'a, A, B> {
         ensures never_stops { result ≡ said.Stopped → ⊥ }
         ensures tally { self.new.tally ≡ told result self.old.tally }
         ensures syncs { A.tells × B.tells → Syncs result (shown_of A.view B.view self.old.present) (shown_of A.view B.view self.new.present) }
+        ensures goes { StaysSound result self.old.present.pair self.new.present.pair self.new.is_sound }
     {
         self.is_ahead = true;
         match self.present.pair.first.sync() {
@@ -317,6 +336,7 @@ impl<'a, A: CrashDisk, B: CrashDisk> Parts<'a, A, B> {
         ensures never_stops { result ≡ said.Stopped → ⊥ }
         ensures tally { self.new.tally ≡ told result self.old.tally }
         ensures syncs { A.tells × B.tells → Syncs result (shown_of A.view B.view self.old.present) (shown_of A.view B.view self.new.present) }
+        ensures goes { StaysSound result self.old.present.pair self.new.present.pair self.new.is_sound }
     {
         self.is_ahead = true;
         let answer = self.present.pair.first.sync();
@@ -329,6 +349,7 @@ impl<'a, A: CrashDisk, B: CrashDisk> Parts<'a, A, B> {
         ensures never_stops { result ≡ said.Stopped → ⊥ }
         ensures tally { self.new.tally ≡ told result self.old.tally }
         ensures syncs { A.tells × B.tells → Syncs result (shown_of A.view B.view self.old.present) (shown_of A.view B.view self.new.present) }
+        ensures goes { StaysSound result self.old.present.pair self.new.present.pair self.new.is_sound }
     {
         self.is_ahead = true;
         let answer = self.present.pair.second.sync();
@@ -343,6 +364,7 @@ impl<'a, A: CrashDisk, B: CrashDisk> Parts<'a, A, B> {
         ensures answer { result ≡ answer }
         ensures tally { self.new.tally ≡ told answer self.old.tally }
         ensures syncs { A.tells × B.tells → Syncs answer (shown_of A.view B.view self.old.present) (shown_of A.view B.view self.new.present) }
+        ensures goes { StaysSound result self.old.present.pair self.new.present.pair self.new.is_sound }
     {
         if answer != DiskAnswer::Done {
             return self.settle(answer);
@@ -368,6 +390,7 @@ impl<'a, A: CrashDisk, B: CrashDisk> Parts<'a, A, B> {
         ensures tally { self.new.tally ≡ self.old.tally }
         ensures stopped { A.tells × B.tells → result ≡ said.Stopped → (shown_of A.view B.view self.new.present).gives ≡ written at piece.now (shown_of A.view B.view self.old.present).gives }
         ensures loosened { A.tells × B.tells → Loosened (InRange at (length piece.now)) (shown_of A.view B.view self.old.present) (shown_of A.view B.view self.new.present) }
+        ensures disks { SameDisks self.old.present.pair self.new.present.pair }
     {
         if self.is_dead {
             return DiskAnswer::NoMemory;
@@ -388,6 +411,7 @@ impl<'a, A: CrashDisk, B: CrashDisk> Parts<'a, A, B> {
         ensures tally { self.new.tally ≡ self.old.tally }
         ensures stopped { A.tells × B.tells → result ≡ said.Stopped → (shown_of A.view B.view self.new.present).gives ≡ written at piece.now (shown_of A.view B.view self.old.present).gives }
         ensures loosened { A.tells × B.tells → Loosened (InRange at (length piece.now)) (shown_of A.view B.view self.old.present) (shown_of A.view B.view self.new.present) }
+        ensures disks { SameDisks self.old.present.pair self.new.present.pair }
     {
         if self.present.pair.first.len.is_none() {
             return DiskAnswer::NoMemory;
@@ -404,6 +428,7 @@ impl<'a, A: CrashDisk, B: CrashDisk> Parts<'a, A, B> {
         ensures tally { self.new.tally ≡ self.old.tally }
         ensures stopped { A.tells × B.tells → result ≡ said.Stopped → (shown_of A.view B.view self.new.present).gives ≡ written at piece.now (shown_of A.view B.view self.old.present).gives }
         ensures loosened { A.tells × B.tells → Loosened (InRange at (length piece.now)) (shown_of A.view B.view self.old.present) (shown_of A.view B.view self.new.present) }
+        ensures disks { SameDisks self.old.present.pair self.new.present.pair }
     {
         if self.present.pair.second.len.is_none() {
             return DiskAnswer::NoMemory;

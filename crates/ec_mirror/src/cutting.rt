@@ -1,11 +1,12 @@
 // What a power cut does with the disks of a mirror.
-ghost use Rattle.std.specs.Prelude.{◌≡◌, ◌<◌, ◌^◌, None, true, false};
+ghost use Rattle.std.specs.Prelude.{◌≡◌, ◌<◌, ◌≤◌, None, true, false};
 ghost use Rattle.ec_disk.specs.Choices.{cut};
 ghost use Rattle.ec_disk.specs.declared.disk.DiskAnswer.TheVariants as said;
 ghost use Rattle.ec_half.specs.Contents.{Fewer, AllSynced};
+ghost use Rattle.ec_half.specs.Headers.{most_generation};
 ghost use Rattle.ec_mirror.specs.declared.kept.Kept.TheVariants as left;
 ghost use Rattle.ec_mirror.specs.Numbers.{Numbered};
-ghost use Rattle.ec_mirror.specs.Shown.{given_by, saved_by, synced_by, shown_of, IsWholeAt, IsSavedAt};
+ghost use Rattle.ec_mirror.specs.Shown.{given_by, saved_by, synced_by, shown_of, IsWholeAt, IsSavedAt, SameDisks, StaysSound};
 ghost use Rattle.ec_mirror.specs.Tally.{behind_cut};
 
 use crate::kept::Kept;
@@ -18,11 +19,12 @@ impl<'a, A: CrashDisk, B: CrashDisk> Parts<'a, A, B> {
     /// Cuts the power of the disks that aren't dropped, and makes them alike.
     pub(crate) fn power_cut(&mut self, choice: Choice) -> DiskAnswer
         ensures never_stops { result ≡ said.Stopped → ⊥ }
-        ensures tally { self.new.tally ≡ behind_cut result self.old.tally }
+        ensures tally { self.new.tally ≡ behind_cut result self.new.tally.failed_alone self.old.tally }
         ensures fewer { A.tells × B.tells → Fewer (shown_of A.view B.view self.old.present) (shown_of A.view B.view self.new.present) }
         ensures leaves { A.tells × B.tells → result ≡ said.Done → (shown_of A.view B.view self.new.present).gives ≡ cut choice (shown_of A.view B.view self.old.present).gives (shown_of A.view B.view self.old.present).synced }
         ensures all_synced { A.tells × B.tells → result ≡ said.Done → AllSynced (shown_of A.view B.view self.new.present) }
         ensures saved { A.tells × B.tells → result ≡ said.Done → (shown_of A.view B.view self.new.present).synced ≡ (shown_of A.view B.view self.new.present).gives }
+        ensures goes { StaysSound result self.old.present.pair self.new.present.pair self.new.is_sound }
     {
         if !self.may_leave(choice) {
             return self.refuse();
@@ -59,6 +61,7 @@ impl<'a, A: CrashDisk, B: CrashDisk> Parts<'a, A, B> {
         ensures is_dead { self.new.is_dead ≡ self.old.is_dead }
         ensures fewer { A.tells × B.tells → Fewer (shown_of A.view B.view self.old.present) (shown_of A.view B.view self.new.present) }
         ensures leaves { A.tells × B.tells → result ≡ said.Done → (shown_of A.view B.view self.new.present).gives ≡ cut choice (given_by A.view B.view self.old.present.pair) (synced_by A.view B.view self.old.present.pair) }
+        ensures disks { SameDisks self.old.present.pair self.new.present.pair }
     {
         match self.present.pair.kept {
             Kept::Both => self.cut_both(choice),
@@ -79,6 +82,7 @@ impl<'a, A: CrashDisk, B: CrashDisk> Parts<'a, A, B> {
         ensures is_dead { self.new.is_dead ≡ self.old.is_dead }
         ensures fewer { A.tells × B.tells → Fewer (shown_of A.view B.view self.old.present) (shown_of A.view B.view self.new.present) }
         ensures leaves { A.tells × B.tells → result ≡ said.Done → (shown_of A.view B.view self.new.present).gives ≡ cut choice (given_by A.view B.view self.old.present.pair) (synced_by A.view B.view self.old.present.pair) }
+        ensures disks { SameDisks self.old.present.pair self.new.present.pair }
     {
         match self.present.pair.first.power_cut(choice) {
             DiskAnswer::Done => self.present.pair.second.power_cut(choice),
@@ -90,11 +94,12 @@ impl<'a, A: CrashDisk, B: CrashDisk> Parts<'a, A, B> {
     fn renew(&mut self) -> DiskAnswer
         requires lives { self.old.is_dead ≡ false }
         ensures never_stops { result ≡ said.Stopped → ⊥ }
-        ensures tally { self.new.tally ≡ behind_cut result self.old.tally }
+        ensures tally { self.new.tally ≡ behind_cut result self.new.tally.failed_alone self.old.tally }
         ensures fewer { A.tells × B.tells → Fewer (shown_of A.view B.view self.old.present) (shown_of A.view B.view self.new.present) }
         ensures gives { A.tells × B.tells → result ≡ said.Done → (shown_of A.view B.view self.new.present).gives ≡ (shown_of A.view B.view self.old.present).gives }
         ensures all_synced { A.tells × B.tells → result ≡ said.Done → AllSynced (shown_of A.view B.view self.new.present) }
         ensures saved { A.tells × B.tells → result ≡ said.Done → (shown_of A.view B.view self.new.present).synced ≡ (shown_of A.view B.view self.new.present).gives }
+        ensures goes { StaysSound result self.old.present.pair self.new.present.pair self.new.is_sound }
     {
         if self.number >= MOST {
             return self.refuse();
@@ -109,15 +114,16 @@ impl<'a, A: CrashDisk, B: CrashDisk> Parts<'a, A, B> {
 
     // The first disk's content is copied to the second one, which isn't longer.
     fn renew_both(&mut self) -> DiskAnswer
-        requires most { self.old.number < 2 ^ 62 }
+        requires most { self.old.number < most_generation }
         requires kept { self.old.present.pair.kept ≡ left.Both }
         requires lives { self.old.is_dead ≡ false }
         ensures never_stops { result ≡ said.Stopped → ⊥ }
-        ensures tally { self.new.tally ≡ behind_cut result self.old.tally }
+        ensures tally { self.new.tally ≡ behind_cut result self.new.tally.failed_alone self.old.tally }
         ensures fewer { A.tells × B.tells → Fewer (shown_of A.view B.view self.old.present) (shown_of A.view B.view self.new.present) }
         ensures gives { A.tells × B.tells → result ≡ said.Done → (shown_of A.view B.view self.new.present).gives ≡ (shown_of A.view B.view self.old.present).gives }
         ensures all_synced { A.tells × B.tells → result ≡ said.Done → AllSynced (shown_of A.view B.view self.new.present) }
         ensures saved { A.tells × B.tells → result ≡ said.Done → (shown_of A.view B.view self.new.present).synced ≡ (shown_of A.view B.view self.new.present).gives }
+        ensures goes { StaysSound result self.old.present.pair self.new.present.pair self.new.is_sound }
     {
         let len = match self.present.pair.first.known_len() {
             Ok(len) => len,
@@ -145,15 +151,16 @@ impl<'a, A: CrashDisk, B: CrashDisk> Parts<'a, A, B> {
     }
 
     fn renew_first(&mut self) -> DiskAnswer
-        requires most { self.old.number < 2 ^ 62 }
+        requires most { self.old.number < most_generation }
         requires kept { self.old.present.pair.kept ≡ left.First }
         requires lives { self.old.is_dead ≡ false }
         ensures never_stops { result ≡ said.Stopped → ⊥ }
-        ensures tally { self.new.tally ≡ behind_cut result self.old.tally }
+        ensures tally { self.new.tally ≡ behind_cut result self.new.tally.failed_alone self.old.tally }
         ensures fewer { A.tells × B.tells → Fewer (shown_of A.view B.view self.old.present) (shown_of A.view B.view self.new.present) }
         ensures gives { A.tells × B.tells → result ≡ said.Done → (shown_of A.view B.view self.new.present).gives ≡ (shown_of A.view B.view self.old.present).gives }
         ensures all_synced { A.tells × B.tells → result ≡ said.Done → AllSynced (shown_of A.view B.view self.new.present) }
         ensures saved { A.tells × B.tells → result ≡ said.Done → (shown_of A.view B.view self.new.present).synced ≡ (shown_of A.view B.view self.new.present).gives }
+        ensures goes { StaysSound result self.old.present.pair self.new.present.pair self.new.is_sound }
     {
         let len = match self.present.pair.first.known_len() {
             Ok(len) => len,
@@ -168,15 +175,16 @@ impl<'a, A: CrashDisk, B: CrashDisk> Parts<'a, A, B> {
     }
 
     fn renew_second(&mut self) -> DiskAnswer
-        requires most { self.old.number < 2 ^ 62 }
+        requires most { self.old.number < most_generation }
         requires kept { self.old.present.pair.kept ≡ left.Second }
         requires lives { self.old.is_dead ≡ false }
         ensures never_stops { result ≡ said.Stopped → ⊥ }
-        ensures tally { self.new.tally ≡ behind_cut result self.old.tally }
+        ensures tally { self.new.tally ≡ behind_cut result self.new.tally.failed_alone self.old.tally }
         ensures fewer { A.tells × B.tells → Fewer (shown_of A.view B.view self.old.present) (shown_of A.view B.view self.new.present) }
         ensures gives { A.tells × B.tells → result ≡ said.Done → (shown_of A.view B.view self.new.present).gives ≡ (shown_of A.view B.view self.old.present).gives }
         ensures all_synced { A.tells × B.tells → result ≡ said.Done → AllSynced (shown_of A.view B.view self.new.present) }
         ensures saved { A.tells × B.tells → result ≡ said.Done → (shown_of A.view B.view self.new.present).synced ≡ (shown_of A.view B.view self.new.present).gives }
+        ensures goes { StaysSound result self.old.present.pair self.new.present.pair self.new.is_sound }
     {
         let len = match self.present.pair.second.known_len() {
             Ok(len) => len,
@@ -191,6 +199,7 @@ impl<'a, A: CrashDisk, B: CrashDisk> Parts<'a, A, B> {
     }
 
     fn renewed(&mut self, number: u64) -> DiskAnswer
+        requires small { number ≤ most_generation }
         requires stands { self.old.present.pair.kept ≡ left.Leaving → ⊥ }
         requires numbered { Numbered self.old.present.pair.kept self.old.present.pair.first.generation.number self.old.present.pair.first.most self.old.present.pair.second.generation.number self.old.present.pair.second.most number }
         requires whole { IsWholeAt A.view B.view (A.tells × B.tells) true self.old.present }
@@ -200,6 +209,7 @@ impl<'a, A: CrashDisk, B: CrashDisk> Parts<'a, A, B> {
         ensures gives { (shown_of A.view B.view self.new.present).gives ≡ given_by A.view B.view self.old.present.pair }
         ensures all_synced { A.tells × B.tells → AllSynced (shown_of A.view B.view self.new.present) }
         ensures saved { (shown_of A.view B.view self.new.present).synced ≡ (shown_of A.view B.view self.new.present).gives }
+        ensures goes { SameDisks self.old.present.pair self.new.present.pair × (self.new.is_sound ≡ true) }
     {
         self.is_dirty = true;
         self.is_ahead = true;
@@ -214,7 +224,7 @@ impl<'a, A: CrashDisk, B: CrashDisk> Parts<'a, A, B> {
         requires failed { answer ≡ said.Failed → self.old.present.pair.first.has_failed ≡ false → self.old.present.pair.second.has_failed ≡ true }
         requires not_done { answer ≡ said.Done → ⊥ }
         ensures answer { result ≡ answer }
-        ensures tally { self.new.tally ≡ behind_cut answer self.old.tally }
+        ensures tally { self.new.tally ≡ behind_cut answer self.new.tally.failed_alone self.old.tally }
         ensures present { self.new.present ≡ self.old.present }
     {
         if answer == DiskAnswer::Failed {

@@ -7,9 +7,13 @@ mod kept;
 mod laws;
 mod mirror;
 mod opening;
+mod over;
 mod pair;
 mod parts;
+mod pinned;
 mod tally;
 
 pub use ec_half::MirrorFault;
 pub use mirror::Mirror;
+pub use over::TwoDisks;
+pub use pinned::{PinnedMirror, Pins};

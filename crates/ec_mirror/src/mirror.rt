@@ -38,8 +38,8 @@ impl<'a, A: CrashDisk, B: CrashDisk> Mirror<'a, A, B> {
 impl<A: CrashDisk, B: CrashDisk> Disk for Mirror<'_, A, B> {
     ghost use Rattle.std.proofs.Common.{inl};
     ghost use Rattle.ec_mirror.specs.Past.{view_at};
-    ghost use Rattle.ec_mirror.specs.Shown.{shown_of};
-    ghost use Rattle.ec_mirror.specs.Tally.{counts_of};
+    ghost use Rattle.ec_mirror.specs.Shown.{shown_of, SameDisks};
+    ghost use Rattle.ec_mirror.specs.Tally.{counts_of, FailsWithBoth, LeavesSound};
     ghost use Rattle.ec_mirror.specs.Moments.{given, given_synced};
     ghost use Rattle.ec_mirror.specs.PastLaws.{only_now};
 
@@ -49,7 +49,7 @@ impl<A: CrashDisk, B: CrashDisk> Disk for Mirror<'_, A, B> {
 
     ghost counts = { λ m. counts_of m.parts.tally };
 
-    ghost does = { λ old call new. Unit {0} };
+    ghost does = { λ old call new. SameDisks old.parts.present.pair new.parts.present.pair × FailsWithBoth call old.parts.tally new.parts.tally × LeavesSound call old.parts.is_sound new.parts.is_sound };
 
     ghost given = { λ told m. given A.view B.view (A.given told.0) (B.given told.1) m.parts.present };
 
@@ -81,7 +81,10 @@ impl<A: CrashDisk, B: CrashDisk> Disk for Mirror<'_, A, B> {
 }
 
 impl<A: CrashDisk, B: CrashDisk> CrashDisk for Mirror<'_, A, B> {
-    ghost tries = { λ old trial new. Unit {0} };
+    ghost use Rattle.ec_mirror.specs.Shown.{SameDisks};
+    ghost use Rattle.ec_mirror.specs.Tally.{TriesWithBoth, TriesSound};
+
+    ghost tries = { λ old trial new. SameDisks old.parts.present.pair new.parts.present.pair × TriesWithBoth trial old.parts.tally new.parts.tally × TriesSound trial old.parts.is_sound new.parts.is_sound };
 
     fn arm(&mut self, calls: u64) {
         self.parts.tally.armed = Some(calls);

@@ -1,7 +1,7 @@
 // Two disks become a mirror.
 ghost use Rattle.std.specs.Prelude.{◌≡◌, ◌⊎◌, ◌≤◌, ◌<◌, ◌+◌, ℕ, [], ◌∷◌, None, Some, Err, IsOk, IfOk, length, true, false};
 ghost use Rattle.ec_half.specs.Contents.{content_behind, HasHeader, Rested, AllSynced};
-ghost use Rattle.ec_half.specs.Headers.{IsNoHalf, IsFoundOf, MayBeHalf};
+ghost use Rattle.ec_half.specs.Headers.{IsNoHalf, IsFoundOf, MayBeHalf, most_generation};
 ghost use Rattle.ec_half.specs.declared.fault.MirrorFault.TheVariants as fault;
 ghost use Rattle.ec_mirror.specs.declared.kept.Kept.TheVariants as left;
 ghost use Rattle.ec_mirror.specs.Joins.{content_of, joined_of, lead, number_of};
@@ -30,9 +30,12 @@ impl<'a, A: CrashDisk, B: CrashDisk> Mirror<'a, A, B> {
         ensures alike { IfOk result (λ mirror. A.tells → B.tells → mirror.parts.present.pair.kept ≡ left.Both → (content_behind (A.view mirror.parts.present.pair.first.disk.now)).gives ≡ (content_behind (B.view mirror.parts.present.pair.second.disk.now)).gives) }
         ensures gives { IfOk result (λ mirror. A.tells → B.tells → (shown_of A.view B.view mirror.parts.present).gives ≡ content_of (A.view first.old).gives (B.view second.old).gives) }
         ensures synced { IfOk result (λ mirror. A.tells × B.tells → AllSynced (shown_of A.view B.view mirror.parts.present)) }
-        ensures counts { IfOk result (λ mirror. mirror.parts.tally ≡ record { calls = 0; faults = 0; stops = 0; armed = None }) }
+        ensures sound { IfOk result (λ mirror. mirror.parts.is_sound ≡ true) }
+        ensures counts { IfOk result (λ mirror. mirror.parts.tally ≡ record { calls = 0; faults = 0; stops = 0; armed = None; failed_alone = false }) }
         ensures first_from { IfOk result (λ mirror. (before : A) × (mirror.parts.present.pair.first.from.items ≡ before ∷ []) × ((A.counts first.old).faults ≤ (A.counts before).faults)) }
         ensures second_from { IfOk result (λ mirror. (before : B) × (mirror.parts.present.pair.second.from.items ≡ before ∷ []) × ((B.counts second.old).faults ≤ (B.counts before).faults)) }
+        ensures first_disk { IfOk result (λ mirror. mirror.parts.present.pair.first.disk.ghost_name ≡ first.entry.ghost_name) }
+        ensures second_disk { IfOk result (λ mirror. mirror.parts.present.pair.second.disk.ghost_name ≡ second.entry.ghost_name) }
     {
         let found_first = match look_at(first, 1) {
             Ok(found) => found,
@@ -73,9 +76,12 @@ fn made<'a, A: CrashDisk, B: CrashDisk>(
     ensures alike { IfOk result (λ mirror. A.tells → B.tells → IsFoundOf found_first (A.view first.old).gives → IsFoundOf found_second (B.view second.old).gives → mirror.parts.present.pair.kept ≡ left.Both → (content_behind (A.view mirror.parts.present.pair.first.disk.now)).gives ≡ (content_behind (B.view mirror.parts.present.pair.second.disk.now)).gives) }
     ensures shows { IfOk result (λ mirror. (shown_of A.view B.view mirror.parts.present).gives ≡ given_by A.view B.view mirror.parts.present.pair) }
     ensures synced { IfOk result (λ mirror. A.tells × B.tells → AllSynced (shown_of A.view B.view mirror.parts.present)) }
-    ensures counts { IfOk result (λ mirror. mirror.parts.tally ≡ record { calls = 0; faults = 0; stops = 0; armed = None }) }
+    ensures sound { IfOk result (λ mirror. mirror.parts.is_sound ≡ true) }
+    ensures counts { IfOk result (λ mirror. mirror.parts.tally ≡ record { calls = 0; faults = 0; stops = 0; armed = None; failed_alone = false }) }
     ensures first_from { IfOk result (λ mirror. (before : A) × (mirror.parts.present.pair.first.from.items ≡ before ∷ []) × ((A.counts first.old).faults ≤ (A.counts before).faults)) }
     ensures second_from { IfOk result (λ mirror. (before : B) × (mirror.parts.present.pair.second.from.items ≡ before ∷ []) × ((B.counts second.old).faults ≤ (B.counts before).faults)) }
+    ensures first_disk { IfOk result (λ mirror. mirror.parts.present.pair.first.disk.ghost_name ≡ first.entry.ghost_name) }
+    ensures second_disk { IfOk result (λ mirror. mirror.parts.present.pair.second.disk.ghost_name ≡ second.entry.ghost_name) }
 {
     let first = begun(first, found_first)?;
     let second = begun(second, found_second)?;
@@ -97,6 +103,7 @@ fn made<'a, A: CrashDisk, B: CrashDisk>(
 // A disk with its generation; an empty one gets a header.
 fn begun<'a, D: CrashDisk>(disk: &'a mut D, found: Found) -> Result<Half<'a, D>, DiskAnswer>
     ensures from { IfOk result (λ half. half.from.items ≡ half.disk.now ∷ []) }
+    ensures same_disk { IfOk result (λ half. half.disk.ghost_name ≡ disk.entry.ghost_name) }
     ensures later { IfOk result (λ half. (D.counts disk.old).faults ≤ (D.counts half.disk.now).faults) }
     ensures most { IfOk result (λ half. half.most ≡ half.generation.number) }
     ensures number { IfOk result (λ half. D.tells → IsFoundOf found (D.view disk.old).gives → half.generation.number ≡ number_of (D.view disk.old).gives) }
@@ -120,11 +127,15 @@ fn joined<'a, A: CrashDisk, B: CrashDisk>(
     requires whole { pair.old.kept ≡ left.Both }
     requires first { pair.old.first.most < number }
     requires second { pair.old.second.most < number }
+    requires small { number ≤ most_generation }
     ensures first_leads { pair.new.kept ≡ left.First → pair.old.second.generation.number ≤ pair.old.first.generation.number }
     ensures second_leads { pair.new.kept ≡ left.Second → pair.old.first.generation.number < pair.old.second.generation.number }
     ensures first_from { pair.new.first.from ≡ pair.old.first.from }
     ensures second_from { pair.new.second.from ≡ pair.old.second.from }
+    ensures first_disk { pair.new.first.disk.ghost_name ≡ pair.old.first.disk.ghost_name }
+    ensures second_disk { pair.new.second.disk.ghost_name ≡ pair.old.second.disk.ghost_name }
     ensures numbered { IfOk result (λ made. Numbered pair.new.kept pair.new.first.generation.number pair.new.first.most pair.new.second.generation.number pair.new.second.most made) }
+    ensures small { IfOk result (λ made. made ≤ most_generation) }
     ensures whole { pair.new.kept ≡ left.Leaving → ⊥ }
     ensures without_first { pair.new.kept ≡ left.Second → pair.new.first.has_failed ≡ true }
     ensures without_second { pair.new.kept ≡ left.First → pair.new.second.has_failed ≡ true }
@@ -162,9 +173,12 @@ fn join_from<S: CrashDisk, O: CrashDisk>(
     requires other { other.old.most < number }
     ensures source_from { source.new.from ≡ source.old.from }
     ensures other_from { other.new.from ≡ other.old.from }
+    ensures source_disk { source.new.disk.ghost_name ≡ source.old.disk.ghost_name }
+    ensures other_disk { other.new.disk.ghost_name ≡ other.old.disk.ghost_name }
     ensures alone { IfOk result (λ joined. joined ≡ false → other.new.has_failed ≡ true) }
     ensures raised { IfOk result (λ joined. joined ≡ true → source.new.generation.number ≡ number) }
     ensures raised_alone { IfOk result (λ joined. joined ≡ false → source.new.generation.number ≡ number + 1) }
+    ensures small { IfOk result (λ joined. joined ≡ false → number < most_generation) }
     ensures other_raised { IfOk result (λ joined. joined ≡ true → other.new.generation.number ≡ number) }
     ensures other_stays { IfOk result (λ joined. joined ≡ false → other.new.generation.number < number) }
     ensures most { IfOk result (λ joined. joined ≡ true → source.new.most ≤ number) }
@@ -194,6 +208,7 @@ fn join_from<S: CrashDisk, O: CrashDisk>(
 
 fn len_of<D: CrashDisk>(half: &mut Half<'_, D>) -> Result<u64, DiskAnswer>
     ensures from { half.new.from ≡ half.old.from }
+    ensures same_disk { half.new.disk.ghost_name ≡ half.old.disk.ghost_name }
     ensures generation { half.new.generation ≡ half.old.generation }
     ensures most { half.new.most ≡ half.old.most }
     ensures len { IfOk result (λ len. D.tells → len ≡ length (content_behind (D.view half.old.disk.now)).gives) }
@@ -213,13 +228,15 @@ fn opened<'a, A: CrashDisk, B: CrashDisk>(pair: Pair<'a, A, B>, number: u64) -> 
     requires whole { pair.kept ≡ left.Leaving → ⊥ }
     requires whole_at { IsWhole (A.tells × B.tells) pair.kept (first_of A.view B.view pair) (second_of A.view B.view pair) pair.first.len pair.second.len true [] }
     requires saved { IsSaved (A.tells × B.tells) pair.kept (first_of A.view B.view pair) (second_of A.view B.view pair) }
+    requires small { number ≤ most_generation }
     requires numbered { Numbered pair.kept pair.first.generation.number pair.first.most pair.second.generation.number pair.second.most number }
     requires without_first { pair.kept ≡ left.Second → pair.first.has_failed ≡ true }
     requires without_second { pair.kept ≡ left.First → pair.second.has_failed ≡ true }
     ensures pair { result.present.pair ≡ pair.entry }
     ensures shows { (shown_of A.view B.view result.present).gives ≡ given_by A.view B.view result.present.pair }
     ensures synced { A.tells × B.tells → AllSynced (shown_of A.view B.view result.present) }
-    ensures counts { result.tally ≡ record { calls = 0; faults = 0; stops = 0; armed = None } }
+    ensures sound { result.is_sound ≡ true }
+    ensures counts { result.tally ≡ record { calls = 0; faults = 0; stops = 0; armed = None; failed_alone = false } }
 {
     Parts {
         present: Moment::new(pair),
@@ -228,7 +245,6 @@ fn opened<'a, A: CrashDisk, B: CrashDisk>(pair: Pair<'a, A, B>, number: u64) -> 
         is_dead: false,
         is_dirty: false,
         is_ahead: false,
-        failed_alone: false,
         len: 0,
         tally: Tally::new(),
     }

@@ -2,10 +2,11 @@
 ghost use Rattle.std.specs.Prelude.{◌≡◌, ◌≤◌, Some, [], ◌∷◌, length, true, false};
 ghost use Rattle.ec_disk.specs.declared.disk.DiskAnswer.TheVariants as said;
 ghost use Rattle.ec_half.specs.Contents.{Fewer, AllSynced};
+ghost use Rattle.ec_half.specs.Headers.{most_generation};
 ghost use Rattle.ec_mirror.specs.declared.kept.Kept.TheVariants as left;
 ghost use Rattle.ec_mirror.specs.Numbers.{Numbered};
-ghost use Rattle.ec_mirror.specs.Shown.{first_of, second_of, given_by, saved_by, shown_of, IsWholeAt, IsSavedAt};
-ghost use Rattle.ec_mirror.specs.Tally.{told};
+ghost use Rattle.ec_mirror.specs.Shown.{first_of, second_of, given_by, saved_by, shown_of, IsWholeAt, IsSavedAt, SameDisks};
+ghost use Rattle.ec_mirror.specs.Tally.{told, told_alone};
 
 use crate::kept::Kept;
 use crate::pair::Moment;
@@ -26,8 +27,6 @@ pub(crate) struct Parts<'a, A: CrashDisk, B: CrashDisk> {
     pub(crate) is_dirty: bool,
     /// A disk may have synced what the mirror doesn't tell to be synced.
     pub(crate) is_ahead: bool,
-    /// The fault of one disk was the mirror's: in a power cut, or at a question for the length behind a write that wasn't done.
-    pub(crate) failed_alone: bool,
     /// The content's length where the mirror is dead.
     pub(crate) len: u64,
     pub(crate) tally: Tally,
@@ -38,9 +37,10 @@ pub(crate) struct Parts<'a, A: CrashDisk, B: CrashDisk> {
     ghost leaving: { present.pair.kept ≡ left.Leaving → present.pair.first.has_failed ≡ true },
     ghost without_first: { present.pair.kept ≡ left.Second → present.pair.first.has_failed ≡ true },
     ghost without_second: { present.pair.kept ≡ left.First → present.pair.second.has_failed ≡ true },
+    ghost small: { number ≤ most_generation },
     ghost numbered: { is_dead ≡ false → Numbered present.pair.kept present.pair.first.generation.number present.pair.first.most present.pair.second.generation.number present.pair.second.most number },
     // The mirror has failed only where both disks have, or one of them alone.
-    ghost both_failed: { 1 ≤ tally.faults → failed_alone ≡ false → (present.pair.first.has_failed ≡ true) × (present.pair.second.has_failed ≡ true) },
+    ghost both_failed: { 1 ≤ tally.faults → tally.failed_alone ≡ false → (present.pair.first.has_failed ≡ true) × (present.pair.second.has_failed ≡ true) },
     ghost one_failed: { 1 ≤ tally.faults → present.pair.first.has_failed ≡ false → present.pair.second.has_failed ≡ true },
     // It shows what it is, or what it was when it began to be made anew.
     ghost thawed: { is_dead ≡ false → present.frozen.items ≡ [] },
@@ -96,6 +96,7 @@ impl<'a, A: CrashDisk, B: CrashDisk> Parts<'a, A, B> {
 
     /// It's sound under this generation, which the disks that aren't dropped have.
     pub(crate) fn thaw(&mut self, number: u64)
+        requires small { number ≤ most_generation }
         requires stands { self.old.present.pair.kept ≡ left.Leaving → ⊥ }
         requires numbered { Numbered self.old.present.pair.kept self.old.present.pair.first.generation.number self.old.present.pair.first.most self.old.present.pair.second.generation.number self.old.present.pair.second.most number }
         requires whole { IsWholeAt A.view B.view (A.tells × B.tells) self.old.is_dirty self.old.present }
@@ -134,6 +135,7 @@ impl<'a, A: CrashDisk, B: CrashDisk> Parts<'a, A, B> {
     /// What a call answers that no disk is left for.
     pub(crate) fn settle(&mut self, answer: DiskAnswer) -> DiskAnswer
         requires { answer ≡ said.Failed → (self.old.present.pair.first.has_failed ≡ true) × (self.old.present.pair.second.has_failed ≡ true) }
+        ensures sound { answer ≡ said.Done → self.new.is_sound ≡ self.old.is_sound }
         ensures answer { result ≡ answer }
         ensures tally { self.new.tally ≡ told answer self.old.tally }
         ensures present { self.new.present ≡ self.old.present }
@@ -163,11 +165,12 @@ impl<'a, A: CrashDisk, B: CrashDisk> Parts<'a, A, B> {
     /// A disk has failed that isn't known to be the last one.
     pub(crate) fn fault(&mut self)
         requires { self.old.present.pair.first.has_failed ≡ false → self.old.present.pair.second.has_failed ≡ true }
-        ensures tally { self.new.tally ≡ told said.Failed self.old.tally }
+        ensures tally { self.new.tally ≡ told_alone self.new.tally.failed_alone self.old.tally }
+        ensures sound { self.new.is_sound ≡ self.old.is_sound }
         ensures present { self.new.present ≡ self.old.present }
     {
         if !self.present.pair.first.has_failed || !self.present.pair.second.has_failed {
-            self.failed_alone = true;
+            self.tally.failed_alone = true;
         }
         self.tally.fault();
     }
@@ -196,6 +199,7 @@ impl<'a, A: CrashDisk, B: CrashDisk> Parts<'a, A, B> {
         ensures synced { (shown_of A.view B.view self.new.present).synced ≡ (shown_of A.view B.view self.old.present).synced }
         ensures gives { A.tells × B.tells → (first_of A.view B.view self.old.present.pair).gives ≡ (second_of A.view B.view self.old.present.pair).gives → (shown_of A.view B.view self.new.present).gives ≡ (shown_of A.view B.view self.old.present).gives }
         ensures second_gives { result ≡ said.Done → A.tells × B.tells → (shown_of A.view B.view self.new.present).gives ≡ (second_of A.view B.view self.old.present.pair).gives }
+        ensures disks { SameDisks self.old.present.pair self.new.present.pair }
     {
         let Some(len) = self.present.pair.second.len else {
             return self.refuse();
@@ -228,6 +232,7 @@ impl<'a, A: CrashDisk, B: CrashDisk> Parts<'a, A, B> {
         ensures synced { (shown_of A.view B.view self.new.present).synced ≡ (shown_of A.view B.view self.old.present).synced }
         ensures gives { A.tells × B.tells → (shown_of A.view B.view self.new.present).gives ≡ (shown_of A.view B.view self.old.present).gives }
         ensures saved { result ≡ said.Done → IsSavedAt A.view B.view (A.tells × B.tells) self.new.present }
+        ensures disks { SameDisks self.old.present.pair self.new.present.pair }
     {
         let Some(len) = self.present.pair.first.len else {
             return self.refuse();

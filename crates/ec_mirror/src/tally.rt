@@ -13,6 +13,8 @@ pub(crate) struct Tally {
     pub(crate) faults: u64,
     pub(crate) stops: u64,
     pub(crate) armed: Option<u64>,
+    /// The fault of one disk was the mirror's: in a power cut, or at a question for the length behind a write that wasn't done.
+    pub(crate) failed_alone: bool,
 }
 
 impl Tally {
@@ -23,13 +25,14 @@ impl Tally {
     ghost use Rattle.ec_mirror.specs.declared.tally.Turn.TheVariants as turn;
 
     pub(crate) fn new() -> Tally
-        ensures { result ≡ record { calls = 0; faults = 0; stops = 0; armed = None } }
+        ensures { result ≡ record { calls = 0; faults = 0; stops = 0; armed = None; failed_alone = false } }
     {
         Tally {
             calls: 0,
             faults: 0,
             stops: 0,
             armed: None,
+            failed_alone: false,
         }
     }
 
@@ -40,6 +43,7 @@ impl Tally {
         ensures due { IsDue self.old.armed → result ≡ turn.Goes → ⊥ }
         ensures call { self.new.calls ≡ one_more self.old.calls }
         ensures faults { self.new.faults ≡ self.old.faults }
+        ensures alone { self.new.failed_alone ≡ self.old.failed_alone }
     {
         self.calls = self.calls.saturating_add(1);
         match self.armed {
@@ -63,6 +67,7 @@ impl Tally {
         ensures goes { result ≡ false → self.old.armed ≡ Some 0 → ⊥ }
         ensures call { self.new.calls ≡ one_more self.old.calls }
         ensures faults { self.new.faults ≡ self.old.faults }
+        ensures alone { self.new.failed_alone ≡ self.old.failed_alone }
     {
         self.calls = self.calls.saturating_add(1);
         let has_stopped = self.armed == Some(0);

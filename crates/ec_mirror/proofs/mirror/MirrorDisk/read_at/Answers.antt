@@ -1,12 +1,11 @@
 use Rattle.std.proofs.Common.{◌∙◌, ap, sym, subst}
 use Rattle.std.specs.Prelude.{length}
-use Rattle.ec_disk.specs.declared.disk.DiskAnswer.TheVariants as said
 use Rattle.ec_disk.specs.Disk.{part}
 use Rattle.ec_half.specs.Contents.{Rested}
 use Rattle.ec_disk.specs.Effects.{IsDue}
 use Rattle.ec_mirror.specs.Tally.{TallyTurned}
 use Rattle.ec_mirror.proofs.Passing.{rests-rested}
-use Rattle.ec_mirror.specs.Shown.{shown_of}
+use Rattle.ec_mirror.specs.Shown.{shown_of, lent_of}
 use Rattle.ec_mirror.proofs.mirror.MirrorDisk.read_at.Goals as goal
 
 pub returns-clause-counts : goal.returns-clause-counts
@@ -29,3 +28,6 @@ returns-clause-rests g c told = rests-rested (shown_of g.A.Disk.view g.B.Disk.vi
 
 pub returns-clause-kept : goal.returns-clause-kept
 returns-clause-kept g c told = (subst (λ p. Rested (shown_of g.A.Disk.view g.B.Disk.view p.present) (shown_of g.A.Disk.view g.B.Disk.view c.read_at.new.self.present)) c.note.ensures.parts (c.read_at.ensures.rests told)).synced
+
+pub returns-clause-does : goal.returns-clause-does
+returns-clause-does g c = (c.read_at.ensures.goes.0 ∙ ap (λ p. lent_of p.present.pair) c.note.ensures.parts, (subst (λ p. TallyTurned c.read_at.result p.tally c.read_at.new.self.tally) c.note.ensures.parts c.read_at.ensures.turned).alone, c.read_at.ensures.goes.1)

@@ -2,7 +2,7 @@ use Rattle.std.proofs.Common.{◌∙◌, ap, sym, subst}
 use Rattle.ec_disk.specs.Effects.{IsDue}
 use Rattle.ec_mirror.specs.Tally.{TallyTurned}
 use Rattle.ec_mirror.proofs.Passing.{rests-stays, saves-syncs}
-use Rattle.ec_mirror.specs.Shown.{shown_of, Syncs}
+use Rattle.ec_mirror.specs.Shown.{shown_of, Syncs, lent_of}
 use Rattle.ec_mirror.proofs.mirror.MirrorDisk.sync.Goals as goal
 
 pub returns-clause-counts : goal.returns-clause-counts
@@ -25,3 +25,6 @@ returns-clause-rests g c told = rests-stays (shown_of g.A.Disk.view g.B.Disk.vie
 
 pub returns-clause-saved : goal.returns-clause-saved
 returns-clause-saved g c told = saves-syncs (shown_of g.A.Disk.view g.B.Disk.view) c.sync.result c.args.self.now.past.items c.note.new.self.past.items (shown_of g.A.Disk.view g.B.Disk.view c.args.self.now.parts.present) (shown_of g.A.Disk.view g.B.Disk.view c.sync.new.self.present) (subst (λ p. Syncs c.sync.result (shown_of g.A.Disk.view g.B.Disk.view p.present) (shown_of g.A.Disk.view g.B.Disk.view c.sync.new.self.present)) c.note.ensures.parts (c.sync.ensures.syncs told))
+
+pub returns-clause-does : goal.returns-clause-does
+returns-clause-does g c = (c.sync.ensures.goes.0 ∙ ap (λ p. lent_of p.present.pair) c.note.ensures.parts, (subst (λ p. TallyTurned c.sync.result p.tally c.sync.new.self.tally) c.note.ensures.parts c.sync.ensures.turned).alone, c.sync.ensures.goes.1)

@@ -4,7 +4,7 @@ use Rattle.ec_disk.specs.Effects.{InRange, written}
 use Rattle.ec_half.specs.Contents.{Loosened}
 use Rattle.ec_mirror.specs.Tally.{TallyTurned}
 use Rattle.ec_mirror.proofs.Passing.{wrote-loosened}
-use Rattle.ec_mirror.specs.Shown.{shown_of}
+use Rattle.ec_mirror.specs.Shown.{shown_of, lent_of}
 use Rattle.ec_mirror.proofs.mirror.MirrorDisk.write_at.Goals as goal
 
 pub returns-clause-counts : goal.returns-clause-counts
@@ -27,3 +27,6 @@ returns-clause-wrote g c told = wrote-loosened (shown_of g.A.Disk.view g.B.Disk.
 
 pub returns-clause-kept : goal.returns-clause-kept
 returns-clause-kept g c told = (subst (λ p. Loosened (InRange c.args.at (length c.args.piece.now)) (shown_of g.A.Disk.view g.B.Disk.view p.present) (shown_of g.A.Disk.view g.B.Disk.view c.write_at.new.self.present)) c.note.ensures.parts (c.write_at.ensures.loosened told)).synced
+
+pub returns-clause-does : goal.returns-clause-does
+returns-clause-does g c = (c.write_at.ensures.goes.0 ∙ ap (λ p. lent_of p.present.pair) c.note.ensures.parts, (subst (λ p. TallyTurned c.write_at.result p.tally c.write_at.new.self.tally) c.note.ensures.parts c.write_at.ensures.turned).alone, c.write_at.ensures.goes.1)
