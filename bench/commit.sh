@@ -1,6 +1,6 @@
 #!/bin/sh
 # Times, over real files: appends of 2,000 bytes to a journal beside a C program with the same writes and two syncs an append; commits of
-# 64 small updates to a store beside that program and beside SQLite (its log written ahead, full syncs); and the opening of a full volume
+# 64 small updates to a store beside that program, beside SQLite (its log written ahead, full syncs) and over a mirror of two files; and the opening of a full volume
 # beside a C program that reads the same bytes, from the disk and from memory. It prints rates and ratios. The programs run by turns; each
 # time is the least of its runs, of which a busy disk needs more than five. Those of the commits are of the commits alone: what is committed
 # stands ready before the clock starts.
@@ -39,6 +39,7 @@ for run in $(seq "$runs"); do
     timed journal "$program" "$folder/journal.img" "$records" 0
     timed c "$folder/commit" "$folder/c.img" "$records"
     echo "store $("$program" commit "$folder/store.img" "$records" "$bytes")"
+    echo "mirror $("$program" mirror "$folder/first.img" "$folder/second.img" "$records" "$bytes")"
     echo "two_syncs $("$folder/commit" "$folder/laid.img" "$records" "$body")"
     rm -f "$folder/base.db" "$folder/base.db-wal" "$folder/base.db-shm"
     echo "sqlite $(python3 "$here/commit.py" "$folder/base.db" "$records" "$updates" "$bytes")"
@@ -61,6 +62,7 @@ awk -v records="$records" '
         printf "ratio: %.2f (at least 0.85)\n", least["c"] / least["journal"]
         printf "store:  %.3f s, %.0f commits a second\n", least["store"], records / least["store"]
         printf "C:      %.3f s, ratio %.2f (at least 0.85)\n", least["two_syncs"], least["two_syncs"] / least["store"]
+        printf "mirror: %.3f s, ratio %.2f (at least 0.45)\n", least["mirror"], least["store"] / least["mirror"]
         printf "SQLite: %.3f s, ratio %.2f (at least 2.5)\n", least["sqlite"], least["sqlite"] / least["store"]
         printf "opening from the disk: %.3f s; the bytes read and kept: %.3f s, ratio %.2f (at most 1.5); only read: %.3f s, ratio %.2f\n", least["open"], least["keep"], least["open"] / least["keep"], least["read"], least["open"] / least["read"]
         printf "opening from memory:   %.3f s; the bytes read and kept: %.3f s, ratio %.2f; only read: %.3f s, ratio %.2f\n", least["open_again"], least["keep_again"], least["open_again"] / least["keep_again"], least["read_again"], least["open_again"] / least["read_again"]

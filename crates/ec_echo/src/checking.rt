@@ -1,6 +1,7 @@
 // Transcripts are judged.
 ghost use Rattle.std.specs.Prelude.{◌≡◌, ◌≤◌, IfOk};
 ghost use Rattle.ec_echo.specs.Check.{Judged, rule_text, illegal_text};
+ghost use Rattle.ec_echo.specs.OfNamed.Seen.{stream};
 
 use crate::status::Status;
 use crate::writing::{line_text, write_made, write_text};
@@ -21,16 +22,7 @@ pub(crate) fn check<R: Threads + Sync, S: Source, K: Sink>(
     max_objects: u32,
 ) -> Status
     ensures later { (S.faults source.old ≤ S.faults source.new) × (K.faults sink.old ≤ K.faults sink.new) }
-    ensures judged { Judged max_objects result (record {
-      left = S.left source.old;
-      left_after = S.left source.new;
-      reads = S.faults source.old;
-      reads_after = S.faults source.new;
-      held = K.held sink.old;
-      held_after = K.held sink.new;
-      writes = K.faults sink.old;
-      writes_after = K.faults sink.new;
-    }) }
+    ensures judged { Judged max_objects result (stream S.left S.faults source.old source.new) (stream K.held K.faults sink.old sink.new) }
 {
     match check_transcript(rt, alloc, source, max_objects) {
         Ok(Checked::Legal) => write_text(sink, b"legal\n", Status::Done),

@@ -14,6 +14,7 @@ mod checking;
 mod command;
 mod making;
 mod memory;
+pub mod mirroring;
 pub mod named;
 mod serving;
 mod soaking;
@@ -60,19 +61,9 @@ pub fn run_words<R: Around + Eprint, S: Source, K: Sink, D: CrashDisk + Send, N:
     ensures net { (N.faults net.old ≤ N.faults net.new) × (faults_of spawner.old ≤ faults_of spawner.new) }
     ensures echoes { (status : Status) × (result ≡ code status)
         × Echoes start.entry.boot (map string_bytes start.entry.words.now) status (record {
-          left = S.left source.old;
-          left_after = S.left source.new;
-          reads = S.faults source.old;
-          reads_after = S.faults source.new;
-          held = K.held sink.old;
-          held_after = K.held sink.new;
-          writes = K.faults sink.old;
-          writes_after = K.faults sink.new;
-          tells = D.tells;
-          disk = D.view disk.old;
-          disk_after = D.view disk.new;
-          counts = D.counts disk.old;
-          counts_after = D.counts disk.new;
+          source = record { bytes = S.left source.old; bytes_after = S.left source.new; faults = S.faults source.old; faults_after = S.faults source.new };
+          sink = record { bytes = K.held sink.old; bytes_after = K.held sink.new; faults = K.faults sink.old; faults_after = K.faults sink.new };
+          store = record { tells = D.tells; disk = D.view disk.old; disk_after = D.view disk.new; counts = D.counts disk.old; counts_after = D.counts disk.new };
         })
         (record {
           before = record { faults = N.faults net.old; bad = N.bad net.old; ended = N.ended net.old; starts = faults_of spawner.old };

@@ -1,7 +1,8 @@
 // Scripts that are made, drilled and counted.
 ghost use Rattle.std.specs.Prelude.{◌≡◌, ◌≤◌, ◌++◌, [], List, None, IfOk, OnOk};
 ghost use Rattle.ec_script.specs.Lines.{lines_of};
-ghost use Rattle.ec_echo.specs.Soak.{Told, TellsCounts, TellsLast, AreSorts, IsSort, sort_of, answers, answers_in, unsettled, unsettled_in, summary_text, last_line as last_of, last_text, named};
+ghost use Rattle.ec_echo.specs.Soak.{Told, TellsCounts, AreSorts, IsSort, sort_of, answers, answers_in, unsettled, unsettled_in, summary_text, last_line as last_of, last_text, named};
+ghost use Rattle.ec_echo.specs.Written.{TellsText};
 ghost use Rattle.ec_echo.specs.SoakDrills.{Soaked};
 ghost use Rattle.ec_echo.specs.declared.soaking.Sort.{Sort};
 
@@ -42,19 +43,9 @@ pub(crate) fn soak<K: Sink, D: CrashDisk>(
     ensures counts { ((D.counts disk.old).faults ≤ (D.counts disk.new).faults) × ((D.counts disk.old).stops ≤ (D.counts disk.new).stops) }
     ensures soaked { Soaked number result
         (record {
-          left = None;
-          left_after = None;
-          reads = 0;
-          reads_after = 0;
-          held = K.held sink.old;
-          held_after = K.held sink.new;
-          writes = K.faults sink.old;
-          writes_after = K.faults sink.new;
-          tells = D.tells;
-          disk = D.view disk.old;
-          disk_after = D.view disk.new;
-          counts = D.counts disk.old;
-          counts_after = D.counts disk.new;
+          source = record { bytes = None; bytes_after = None; faults = 0; faults_after = 0 };
+          sink = record { bytes = K.held sink.old; bytes_after = K.held sink.new; faults = K.faults sink.old; faults_after = K.faults sink.new };
+          store = record { tells = D.tells; disk = D.view disk.old; disk_after = D.view disk.new; counts = D.counts disk.old; counts_after = D.counts disk.new };
         }) }
 {
     let Ok(script) = script(alloc, number, MADE_LINES) else {
@@ -100,7 +91,7 @@ fn tell_counts<K: Sink>(alloc: Global, number: u32, transcript: &[u8], sink: &mu
 
 fn tell_last<K: Sink>(alloc: Global, transcript: &[u8], status: Status, sink: &mut K) -> Status
     ensures later { K.faults sink.old ≤ K.faults sink.new }
-    ensures told { TellsLast transcript.now status result (K.held sink.old) (K.held sink.new) (K.faults sink.old) (K.faults sink.new) }
+    ensures told { TellsText (last_text transcript.now) status result (K.held sink.old) (K.held sink.new) (K.faults sink.old) (K.faults sink.new) }
 {
     write_made(sink, last_text(alloc, transcript), status)
 }

@@ -1,5 +1,5 @@
-// The program's disk.
-ghost use Rattle.std.specs.Prelude.{◌≡◌, None, IfOk};
+// The program's disk, or the two of a mirror.
+ghost use Rattle.std.specs.Prelude.{◌≡◌, None, IfOk, IfSome};
 ghost use Rattle.ec_disk.specs.Turns.{counts_of};
 
 use ec_disk::FileDisk;
@@ -12,11 +12,17 @@ use std::os::unix::fs::FileExt;
 /// The file that has the disk, in the current folder.
 const DISK_FILE: &str = "echofs.disk";
 
-/// Why there is no disk.
+/// Where this file is there too, both have the disk.
+const SECOND_FILE: &str = "echofs.disk2";
+
+/// The bytes before the content of a disk of a mirror.
+const MIRROR_HEADER: u64 = 4_096;
+
+/// Why there is no disk: the file's name, and what the system says.
 #[derive(Debug, Drop)]
 pub enum NoDisk {
-    Unopened(io::Error),
-    Unlocked(TryLockError),
+    Unopened(&'static str, io::Error),
+    Unlocked(&'static str, TryLockError),
     NoMemory,
 }
 
@@ -24,37 +30,69 @@ impl NoDisk {
     /// How the program ends.
     pub fn status(&self) -> Status {
         match self {
-            NoDisk::Unopened(_) | NoDisk::Unlocked(_) => Status::DiskFault,
+            NoDisk::Unopened(..) | NoDisk::Unlocked(..) => Status::DiskFault,
             NoDisk::NoMemory => Status::NoMemory,
         }
     }
 }
 
-/// The disk over the program's file, which is made with length 0 where it isn't there. No other program has it until this one ends. Where this
-/// number of objects was asked for, and the disk has another one, that is told.
-pub fn open_disk(rt: HostRuntime, asked: Option<u32>) -> Result<FileDisk<DiskFile>, NoDisk>
+/// The disks over the program's files.
+#[derive(Drop)]
+pub struct Disks {
+    pub first: FileDisk<DiskFile>,
+    pub second: Option<FileDisk<DiskFile>>,
+}
+
+/// Opens the disks: the first one's file is made with length 0 where it isn't there, and there is no second one without its file. No other
+/// program has them until this one ends. Where this number of objects was asked for, and the disk has another one, that is told. There are
+/// none where a file can't be opened, where another program has it or no lock is to be had, and for want of memory.
+pub fn open_disks(rt: HostRuntime, asked: Option<u32>) -> Result<Disks, NoDisk>
+    ensures first { IfOk result (λ disks. (counts_of disks.first.turns).armed ≡ None) }
+    ensures second { IfOk result (λ disks. IfSome disks.second (λ disk. (counts_of disk.turns).armed ≡ None)) }
+{
+    let first = match open(rt, DISK_FILE, true)? {
+        Some(file) => file,
+        None => return Err(NoDisk::NoMemory),
+    };
+    let second = open(rt, SECOND_FILE, false)?;
+    let content = if second.is_some() { MIRROR_HEADER } else { 0 };
+    tell_head(rt, &first, content, asked);
+    let first = disk_over(rt, first, DISK_FILE)?;
+    let second = match second {
+        Some(file) => Some(disk_over(rt, file, SECOND_FILE)?),
+        None => None,
+    };
+    Ok(Disks { first, second })
+}
+
+// Opens and locks a file; none where it isn't there and isn't to be made.
+fn open(rt: HostRuntime, name: &'static str, is_made: bool) -> Result<Option<File>, NoDisk> {
+    let mut options = File::options();
+    options.read(true).write(true).create(is_made);
+    let file = match options.open(&rt, name) {
+        Ok(file) => file,
+        Err(error) if !is_made && error.kind() == io::ErrorKind::NotFound => return Ok(None),
+        Err(error) => return Err(NoDisk::Unopened(name, error)),
+    };
+    match file.try_lock() {
+        Ok(()) => Ok(Some(file)),
+        Err(error) => Err(NoDisk::Unlocked(name, error)),
+    }
+}
+
+fn disk_over(rt: HostRuntime, file: File, name: &'static str) -> Result<FileDisk<DiskFile>, NoDisk>
     ensures { IfOk result (λ disk. (counts_of disk.turns).armed ≡ None) }
 {
-    let mut options = File::options();
-    options.read(true).write(true).create(true);
-    let file = match options.open(&rt, DISK_FILE) {
-        Ok(file) => file,
-        Err(error) => return Err(NoDisk::Unopened(error)),
-    };
-    if let Err(error) = file.try_lock() {
-        return Err(NoDisk::Unlocked(error));
-    }
-    tell_head(rt, &file, asked);
-    match FileDisk::new(rt.alloc(), DiskFile { rt, file }) {
+    match FileDisk::new(rt.alloc(), DiskFile { rt, file, name }) {
         Ok(disk) => Ok(disk),
         Err(_) => Err(NoDisk::NoMemory),
     }
 }
 
-// Tells what the first bytes of a disk say against what was asked for, or that its first layout broke off, which writes them last.
-fn tell_head(rt: HostRuntime, file: &File, asked: Option<u32>) {
+// Tells what the first bytes of a disk's content say against what was asked for, or that its first layout broke off, which writes them last.
+fn tell_head(rt: HostRuntime, file: &File, content: u64, asked: Option<u32>) {
     let mut bytes = [0; 16];
-    if file.read_exact_at(&mut bytes, 0).is_err() {
+    if file.read_exact_at(&mut bytes, content).is_err() {
         return;
     }
     let head = Head::read(&bytes);
@@ -77,22 +115,25 @@ fn tell_head(rt: HostRuntime, file: &File, asked: Option<u32>) {
 /// Says why there is no disk.
 pub fn tell_no_disk(rt: HostRuntime, why: &NoDisk) {
     let _ = match why {
-        NoDisk::Unopened(error) => eprintln!(rt; "echofs: {DISK_FILE} can't be opened: {error}"),
-        NoDisk::Unlocked(TryLockError::WouldBlock) => {
-            eprintln!(rt; "echofs: {DISK_FILE} is in use by another program")
+        NoDisk::Unopened(name, error) => {
+            eprintln!(rt; "echofs: {name} can't be opened: {error}")
         }
-        NoDisk::Unlocked(TryLockError::Error(error)) => {
-            eprintln!(rt; "echofs: {DISK_FILE} can't be locked: {error}")
+        NoDisk::Unlocked(name, TryLockError::WouldBlock) => {
+            eprintln!(rt; "echofs: {name} is in use by another program")
+        }
+        NoDisk::Unlocked(name, TryLockError::Error(error)) => {
+            eprintln!(rt; "echofs: {name} can't be locked: {error}")
         }
         NoDisk::NoMemory => eprintln!(rt; "echofs: out of memory"),
     };
 }
 
-/// The disk's file. What the system refuses is told on standard error, and answered as it came.
+/// A disk's file. What the system refuses is told on standard error, and answered as it came.
 #[derive(Drop)]
 pub struct DiskFile {
     rt: HostRuntime,
     file: File,
+    name: &'static str,
 }
 
 impl DiskFile {
@@ -103,7 +144,8 @@ impl DiskFile {
     {
         if let Err(error) = &answer {
             if error.kind() != io::ErrorKind::Interrupted {
-                let _ = eprintln!(self.rt; "echofs: {DISK_FILE} can't be {what}: {error}");
+                let name = self.name;
+                let _ = eprintln!(self.rt; "echofs: {name} can't be {what}: {error}");
             }
         }
         answer

@@ -8,6 +8,9 @@ ghost use Rattle.std.specs.Process.{exit_status};
 ghost use Rattle.std.specs.String.{string_bytes};
 ghost use Rattle.ec_link.specs.Spawns.{faults_of};
 ghost use Rattle.ec_echo.specs.Forms.{Echoes};
+ghost use Rattle.ec_echo.specs.Mirroring.{Mirrored, Promised, Refused, UsesDisk, UsesNone};
+ghost use Rattle.ec_echo.specs.OfNamed.Forms.{Asks, links};
+ghost use Rattle.ec_echo.specs.OfNamed.Seen.{stream, store};
 ghost use Rattle.ec_echo.specs.Statuses.{code};
 ghost use Rattle.ec_echo.specs.Words.{Spells};
 ghost use Rattle.ec_echo.specs.declared.command.Command.{Command};
@@ -21,12 +24,14 @@ mod streams;
 mod words;
 
 use boot::boot_of;
-use disk::{open_disk, tell_no_disk};
+use disk::{Disks, open_disks, tell_no_disk};
 use ec_base::{Sink, Source, StdSink, StdSource};
-use ec_disk::{CrashDisk, MemDisk};
+use ec_disk::{CrashDisk, Disk, MemDisk};
+use ec_echo::mirroring::mirror_main;
 use ec_echo::named::echo_main;
 use ec_echo::{Command, Status, command_of};
 use ec_link::{Around, Net, Spawner, TcpNet, ThreadSpawner};
+use ec_mirror::Mirror;
 use std::alloc::Global;
 use std::env::Args;
 use std::io::Eprint;
@@ -55,19 +60,9 @@ fn process<R: Around + Eprint, S: Source, K: Sink, D: CrashDisk + Send, N: Net>(
     ensures net { (N.faults net.old ≤ N.faults net.new) × (faults_of spawner.old ≤ faults_of spawner.new) }
     ensures echoes { (status : Status) × (exit_status result ≡ code status)
         × Echoes boot (map string_bytes words.now) status (record {
-          left = S.left source.old;
-          left_after = S.left source.new;
-          reads = S.faults source.old;
-          reads_after = S.faults source.new;
-          held = K.held sink.old;
-          held_after = K.held sink.new;
-          writes = K.faults sink.old;
-          writes_after = K.faults sink.new;
-          tells = D.tells;
-          disk = D.view disk.old;
-          disk_after = D.view disk.new;
-          counts = D.counts disk.old;
-          counts_after = D.counts disk.new;
+          source = record { bytes = S.left source.old; bytes_after = S.left source.new; faults = S.faults source.old; faults_after = S.faults source.new };
+          sink = record { bytes = K.held sink.old; bytes_after = K.held sink.new; faults = K.faults sink.old; faults_after = K.faults sink.new };
+          store = record { tells = D.tells; disk = D.view disk.old; disk_after = D.view disk.new; counts = D.counts disk.old; counts_after = D.counts disk.new };
         })
         (record {
           before = record { faults = N.faults net.old; bad = N.bad net.old; ended = N.ended net.old; starts = faults_of spawner.old };
@@ -77,6 +72,41 @@ fn process<R: Around + Eprint, S: Source, K: Sink, D: CrashDisk + Send, N: Net>(
     end(
         rt,
         echo_main(rt, words, source, sink, disk, net, spawner, boot),
+    )
+}
+
+/// The same over two disks, which hold the same content.
+fn process_mirrored<
+    R: Around + Eprint,
+    S: Source,
+    K: Sink,
+    A: CrashDisk + Send,
+    B: CrashDisk + Send,
+    N: Net,
+>(
+    rt: &R,
+    words: &[String],
+    source: &mut S,
+    sink: &mut K,
+    first: &mut A,
+    second: &mut B,
+    net: &mut N,
+    spawner: &mut Spawner,
+    boot: u64,
+) -> ExitCode
+    requires first { (A.counts first.old).armed ≡ None }
+    requires second { (B.counts second.old).armed ≡ None }
+    ensures usage { Asks (map string_bytes words.now) (exit_status result) }
+    ensures later { (S.faults source.old ≤ S.faults source.new) × (K.faults sink.old ≤ K.faults sink.new) }
+    ensures net { (N.faults net.old ≤ N.faults net.new) × (faults_of spawner.old ≤ faults_of spawner.new) }
+    ensures diskless { UsesNone (map string_bytes words.now) → Promised boot (map string_bytes words.now) (exit_status result) (stream S.left S.faults source.old source.new) (stream K.held K.faults sink.old sink.new) (store A.tells A.view A.counts first.old first.new) (links N.faults N.bad N.ended faults_of net.old net.new spawner.old spawner.new) }
+    ensures second_rests { UsesNone (map string_bytes words.now) → second.new ≡ second.old }
+    ensures mirrored { UsesDisk (map string_bytes words.now) → Refused (record { tells = A.tells; view = A.view; counts = A.counts }) (record { tells = B.tells; view = B.view; counts = B.counts }) (exit_status result) (stream S.left S.faults source.old source.new) (stream K.held K.faults sink.old sink.new) (links N.faults N.bad N.ended faults_of net.old net.new spawner.old spawner.new) first.old second.old
+        ⊎ Mirrored (record { tells = A.tells; view = A.view; counts = A.counts }) (record { tells = B.tells; view = B.view; counts = B.counts }) (record { tells = ⟦<Mirror<'static, A, B> as Disk>⟧.tells; view = ⟦<Mirror<'static, A, B> as Disk>⟧.view; counts = ⟦<Mirror<'static, A, B> as Disk>⟧.counts }) boot (map string_bytes words.now) (exit_status result) (stream S.left S.faults source.old source.new) (stream K.held K.faults sink.old sink.new) (links N.faults N.bad N.ended faults_of net.old net.new spawner.old spawner.new) first.old first.new second.old second.new }
+{
+    end(
+        rt,
+        mirror_main(rt, words, source, sink, first, second, net, spawner, boot),
     )
 }
 
@@ -144,18 +174,32 @@ fn main(rt: HostRuntime) -> ExitCode {
     let mut spawner = Spawner::Threads(ThreadSpawner::new());
     let asks_for_disk = command_of(&words).is_some_and(|command| command.uses_disk());
     if asks_for_disk {
-        match open_disk(rt, asked_objects(&words)) {
-            Ok(mut disk) => {
-                process(
-                    &rt,
-                    &words,
-                    &mut source,
-                    &mut sink,
-                    &mut disk,
-                    &mut net,
-                    &mut spawner,
-                    boot,
-                )
+        match open_disks(rt, asked_objects(&words)) {
+            Ok(disks) => {
+                let Disks { mut first, second } = disks;
+                match second {
+                    Some(mut second) => process_mirrored(
+                        &rt,
+                        &words,
+                        &mut source,
+                        &mut sink,
+                        &mut first,
+                        &mut second,
+                        &mut net,
+                        &mut spawner,
+                        boot,
+                    ),
+                    None => process(
+                        &rt,
+                        &words,
+                        &mut source,
+                        &mut sink,
+                        &mut first,
+                        &mut net,
+                        &mut spawner,
+                        boot,
+                    ),
+                }
             },
             Err(why) => {
                 tell_no_disk(rt, &why);

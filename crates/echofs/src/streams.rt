@@ -7,6 +7,7 @@ use std::os::fd::{AsFd, IntoRawFd};
 const NOT_OPEN: i32 = 9;
 
 /// Opens the null device in the place of each standard stream that is closed, and leaves it open: what is opened later is no standard stream.
+/// The error is the system's, where the null device can't be opened.
 pub fn open_streams(rt: HostRuntime) -> io::Result<()> {
     let closed = [
         is_closed(&rt.stdin()),
