@@ -146,54 +146,54 @@ cause_from cut.NoMemory last writes writes_now writes_after faults faults_now fa
 one_world : (start v : World) → ◌≡◌ {A = Result World Counter} (Ok start) (Ok v) → start ≡ v
 one_world start v e = cc
 
-module _ (most : ℕ) (reads : List Read) (state : Durable) (start : World) (w : Outside) (given : IsGiven w reads) (opens : Opens w.tells w.disk.gives most state) (opened : open_world state ≡ Ok start) (mid : Counts) (le : w.counts.stops ≤ mid.stops) (faults : w.counts.faults ≤ mid.faults) (unarmed : mid.armed ≡ None) where
+module _ (most : ℕ) (reads : List Read) (state : Durable) (start : World) (w : Outside) (given : IsGiven w.source reads) (opens : Opens w.store.tells w.store.disk.gives most state) (opened : open_world state ≡ Ok start) (mid : Counts) (le : w.store.counts.stops ≤ mid.stops) (faults : w.store.counts.faults ≤ mid.faults) (unarmed : mid.armed ≡ None) where
   abbrev pub may_stop : Bool
   may_stop = any_arm reads
 
-  known : IsToldAll w reads → IsKnown w.tells (heard may_stop mid).stops (heard may_stop w.counts_after).stops
-  known (inl k) = heard_known may_stop w.tells mid w.counts_after (known_later w.tells w.counts.stops mid.stops w.counts_after.stops le k)
-  known (inr none) = heard_none may_stop none w.tells mid w.counts_after
+  known : IsToldAll w reads → IsKnown w.store.tells (heard may_stop mid).stops (heard may_stop w.store.counts_after).stops
+  known (inl k) = heard_known may_stop w.store.tells mid w.store.counts_after (known_later w.store.tells w.store.counts.stops mid.stops w.store.counts_after.stops le k)
+  known (inr none) = heard_none may_stop none w.store.tells mid w.store.counts_after
 
-  ran : (number : ℕ) → WholeOn w.tells (heard may_stop mid).stops (heard may_stop w.counts_after).stops mid.armed w.disk_after reads start number w.held w.held_after → RanWhole most number w
+  ran : (number : ℕ) → WholeOn w.store.tells (heard may_stop mid).stops (heard may_stop w.store.counts_after).stops mid.armed w.store.disk_after reads start number w.sink.bytes w.sink.bytes_after → RanWhole most number w
   ran number r = record {
     reads = reads;
     given = given;
     state = state;
     opens = opens;
     fates = r.fates;
-    stopped = heard_stops may_stop r.fates w.counts mid w.counts_after le r.are;
+    stopped = heard_stops may_stop r.fates w.store.counts mid w.store.counts_after le r.are;
     followed = λ k v at.
         subst (λ (x : World). RunArms (bound reads) 1 reads r.fates x None) (one_world start v (sym opened ∙ at)) (subst (λ (a : Option ℕ). RunArms (bound reads) 1 reads r.fates start a) unarmed (r.followed (known k)));
     shown = r.shown;
     lines = λ k. ap (λ (x : Result World Counter). (drill_in reads r.fates x).0) opened ∙ r.lines (known k);
     status = λ k. ap (λ (x : Result World Counter). (drill_in reads r.fates x).1) opened ∙ r.status (known k);
     bytes = r.bytes;
-    disk = λ told. subst (λ (x : Result World Counter). HoldsState w.disk_after (elim x [ Err n ↦ state | Ok v ↦ (end_of reads r.fates v).durable ])) (sym opened) (r.disk told);
+    disk = λ told. subst (λ (x : Result World Counter). HoldsState w.store.disk_after (elim x [ Err n ↦ state | Ok v ↦ (end_of reads r.fates v).durable ])) (sym opened) (r.disk told);
   }
 
-  part : (last : List ℕ) → PartOn w.tells (heard may_stop mid).stops (heard may_stop w.counts_after).stops w.disk_after reads start last w.held w.held_after → RanInPart most w last
+  part : (last : List ℕ) → PartOn w.store.tells (heard may_stop mid).stops (heard may_stop w.store.counts_after).stops w.store.disk_after reads start last w.sink.bytes w.sink.bytes_after → RanInPart most w last
   part last r = record {
     reads = reads;
     given = given;
     state = state;
     opens = opens;
     fates = r.fates;
-    stopped = heard_stops may_stop r.fates w.counts mid w.counts_after le r.are;
+    stopped = heard_stops may_stop r.fates w.store.counts mid w.store.counts_after le r.are;
     shown = r.shown;
     unwritten = r.unwritten;
     front = λ k. let at = r.front (known k) in (at.0, ap (λ (x : Result World Counter). (drill_in reads r.fates x).0) opened ∙ at.1);
     bytes = r.bytes;
     part = r.part;
-    left = λ told. subst (λ (x : Result World Counter). LeavesOf w.disk_after reads r.fates state x r.shown) (sym opened) (r.left told);
+    left = λ told. subst (λ (x : Result World Counter). LeavesOf w.store.disk_after reads r.fates state x r.shown) (sym opened) (r.left told);
   }
 
-  pub drilled_on : (st : Status) → DrilledOn st w.tells (heard may_stop mid) (heard may_stop w.counts_after) w.disk_after reads start w.held w.held_after w.writes w.writes_after → Drilled most st w
+  pub drilled_on : (st : Status) → DrilledOn st w.store.tells (heard may_stop mid) (heard may_stop w.store.counts_after) w.store.disk_after reads start w.sink.bytes w.sink.bytes_after w.sink.faults w.sink.faults_after → Drilled most st w
   drilled_on status.Done r = ran 0 r
   drilled_on status.BadLine r = ran 3 r
   drilled_on status.Limit r = inr (ran 11 r)
   drilled_on status.Spent r = ran 15 r
   drilled_on status.SinkFault r = (r.0, inl (r.1.0, part r.1.0 r.1.1))
-  drilled_on status.DiskFault r = (rose_later w.counts.faults mid.faults w.counts_after.faults faults r.0, inl (part [] r.1))
+  drilled_on status.DiskFault r = (rose_later w.store.counts.faults mid.faults w.store.counts_after.faults faults r.0, inl (part [] r.1))
   drilled_on status.NoMemory r = inl (inl (r.0, part r.0 r.1))
   drilled_on status.Usage r = absurd r
   drilled_on status.SourceFault r = absurd r
@@ -201,10 +201,10 @@ module _ (most : ℕ) (reads : List Read) (state : Durable) (start : World) (w :
 
 -- Nothing was carried out.
 
-refused_part : (w : Outside) (line : Shown) → Unbegun w line → (last : List ℕ) → (last ≡ []) ⊎ IsCutFront (shown_text line) last → Appends w.held w.held_after last → RefusedInPart w
+refused_part : (w : Outside) (line : Shown) → Unbegun w line → (last : List ℕ) → (last ≡ []) ⊎ IsCutFront (shown_text line) last → Appends w.sink.bytes w.sink.bytes_after last → RefusedInPart w
 refused_part w line why last part bytes = record { line = line; why = why; last = last; part = part; bytes = bytes }
 
-pub refused : (most : ℕ) (w : Outside) (line : Shown) (st result : Status) → Unbegun w line → (Appends w.held w.held_after (shown_text line) → Drilled most st w) → RefusedWith line st result w.held w.held_after w.writes w.writes_after → Drilled most result w
+pub refused : (most : ℕ) (w : Outside) (line : Shown) (st result : Status) → Unbegun w line → (Appends w.sink.bytes w.sink.bytes_after (shown_text line) → Drilled most st w) → RefusedWith line st result w.sink.bytes w.sink.bytes_after w.sink.faults w.sink.faults_after → Drilled most result w
 refused most w line st result why told (inl (is, bytes)) = subst (λ (s : Status). Drilled most s w) (sym is) (told bytes)
 refused most w line st result why told (inr (cut.Disk, is, text)) = absurd text.why
 refused most w line st result why told (inr (cut.Sink, is, text)) = subst (λ (s : Status). Drilled most s w) (sym is) (text.why.0, inr (refused_part w line why text.last (inr text.why.1) text.bytes))
@@ -215,7 +215,7 @@ refused most w line st result why told (inr (cut.NoMemory, is, text)) = subst (�
 spent_opens : (n : Counter) (v : World) → ◌≡◌ {A = Result World Counter} (Err n) (Ok v) → ⊥
 spent_opens n v e = cc
 
-spent_part : (most : ℕ) (reads : List Read) (state : Durable) (n : Counter) (w : Outside) → IsGiven w reads → Opens w.tells w.disk.gives most state → open_world state ≡ Err n → (w.tells → HoldsState w.disk_after state) → (last : List ℕ) → (last ≡ []) ⊎ IsCutFront (shown_text (Spent n)) last → Appends w.held w.held_after last → RanInPart most w last
+spent_part : (most : ℕ) (reads : List Read) (state : Durable) (n : Counter) (w : Outside) → IsGiven w.source reads → Opens w.store.tells w.store.disk.gives most state → open_world state ≡ Err n → (w.store.tells → HoldsState w.store.disk_after state) → (last : List ℕ) → (last ≡ []) ⊎ IsCutFront (shown_text (Spent n)) last → Appends w.sink.bytes w.sink.bytes_after last → RanInPart most w last
 spent_part most reads state n w given opens e stands last part bytes = record {
   reads = reads;
   given = given;
@@ -228,10 +228,10 @@ spent_part most reads state n w given opens e stands last part bytes = record {
   front = λ known. ([], ap (λ (x : Result World Counter). (drill_in reads [] x).0) e);
   bytes = bytes;
   part = part;
-  left = λ told. subst (λ (x : Result World Counter). LeavesOf w.disk_after reads [] state x []) (sym e) (stands told).crash;
+  left = λ told. subst (λ (x : Result World Counter). LeavesOf w.store.disk_after reads [] state x []) (sym e) (stands told).crash;
 }
 
-pub spent_at_once : (most : ℕ) (reads : List Read) (state : Durable) (n : Counter) (w : Outside) (result : Status) → IsGiven w reads → Opens w.tells w.disk.gives most state → open_world state ≡ Err n → (w.tells → HoldsState w.disk_after state) → RefusedWith (Spent n) status.Spent result w.held w.held_after w.writes w.writes_after → Drilled most result w
+pub spent_at_once : (most : ℕ) (reads : List Read) (state : Durable) (n : Counter) (w : Outside) (result : Status) → IsGiven w.source reads → Opens w.store.tells w.store.disk.gives most state → open_world state ≡ Err n → (w.store.tells → HoldsState w.store.disk_after state) → RefusedWith (Spent n) status.Spent result w.sink.bytes w.sink.bytes_after w.sink.faults w.sink.faults_after → Drilled most result w
 spent_at_once most reads state n w result given opens e stands (inl (is, bytes)) = subst (λ (s : Status). Drilled most s w) (sym is) (record {
   reads = reads;
   given = given;
@@ -243,8 +243,8 @@ spent_at_once most reads state n w result given opens e stands (inl (is, bytes))
   shown = Spent n ∷ [];
   lines = λ known. ap (λ (x : Result World Counter). (drill_in reads [] x).0) e;
   status = λ known. ap (λ (x : Result World Counter). (drill_in reads [] x).1) e;
-  bytes = subst (λ (t : List ℕ). Appends w.held w.held_after t) (sym (append-nil (shown_text (Spent n)))) bytes;
-  disk = λ told. subst (λ (x : Result World Counter). HoldsState w.disk_after (elim x [ Err n ↦ state | Ok v ↦ (end_of reads [] v).durable ])) (sym e) (stands told);
+  bytes = subst (λ (t : List ℕ). Appends w.sink.bytes w.sink.bytes_after t) (sym (append-nil (shown_text (Spent n)))) bytes;
+  disk = λ told. subst (λ (x : Result World Counter). HoldsState w.store.disk_after (elim x [ Err n ↦ state | Ok v ↦ (end_of reads [] v).durable ])) (sym e) (stands told);
 })
 spent_at_once most reads state n w result given opens e stands (inr (cut.Disk, is, text)) = absurd text.why
 spent_at_once most reads state n w result given opens e stands (inr (cut.Sink, is, text)) = subst (λ (s : Status). Drilled most s w) (sym is) (text.why.0, inl (text.last, spent_part most reads state n w given opens e stands text.last (inr text.why.1) text.bytes))
@@ -274,16 +274,16 @@ cut_short c result tells old new seen k reads start held now writes later is sam
     (by_cause c tells old new seen reads start off.last held now writes later off.cause (cut_part tells old.stops new.stops seen reads start c held now writes later old.faults new.faults off))
 
 -- The disk wasn't opened.
-pub not_opened : (f : WorldFault) (most : ℕ) (reads : List Read) (result : Status) (w : Outside) → IsGiven w reads → Unopened f w.tells w.disk.gives w.disk_after.gives w.disk_after.may_leave most
-    → (w.tells → w.disk_after.may_leave w.disk_after.gives) → (f ≡ fault.DiskFailed → Rose w.counts.faults w.counts_after.faults) → TellsUnopened f result w.held w.held_after w.writes w.writes_after → Drilled most result w
+pub not_opened : (f : WorldFault) (most : ℕ) (reads : List Read) (result : Status) (w : Outside) → IsGiven w.source reads → Unopened f w.store.tells w.store.disk.gives w.store.disk_after.gives w.store.disk_after.may_leave most
+    → (w.store.tells → w.store.disk_after.may_leave w.store.disk_after.gives) → (f ≡ fault.DiskFailed → Rose w.store.counts.faults w.store.counts_after.faults) → TellsUnopened f result w.sink.bytes w.sink.bytes_after w.sink.faults w.sink.faults_after → Drilled most result w
 not_opened (fault.BadDisk place) most reads result w given unopened gives failed told = refused most w (DiskBad place) status.BadDisk result (bad place reads given unopened) (λ bytes. (place, reads, given, unopened, bytes)) told
 not_opened (fault.Spent n) most reads result w given unopened gives failed told =
-    spent_at_once most reads unopened.0 n w result given unopened.1 unopened.2 (λ tells. record { gives = unopened.3 tells w.disk_after.gives (gives tells); crash = unopened.3 tells }) told
+    spent_at_once most reads unopened.0 n w result given unopened.1 unopened.2 (λ tells. record { gives = unopened.3 tells w.store.disk_after.gives (gives tells); crash = unopened.3 tells }) told
 not_opened fault.DiskFailed most reads result w given unopened gives failed told = subst (λ (s : Status). Drilled most s w) (sym told.0) (failed refl, inr told.1)
 not_opened fault.NoSuchOp most reads result w given unopened gives failed told = absurd unopened
 not_opened fault.NoSuchMsg most reads result w given unopened gives failed told = absurd unopened
 not_opened fault.NoMemory most reads result w given unopened gives failed told = subst (λ (s : Status). Drilled most s w) (sym told.0) (inr told.1)
 
 -- The script isn't within the limits.
-pub over_limit : (most : ℕ) (name : LimitName) (n : ℕ) (result : Status) (w : Outside) → IsOver w name n → IsDiskUntouched w → RefusedWith (Limit name n) status.Limit result w.held w.held_after w.writes w.writes_after → Drilled most result w
+pub over_limit : (most : ℕ) (name : LimitName) (n : ℕ) (result : Status) (w : Outside) → IsOver w name n → IsDiskUntouched w → RefusedWith (Limit name n) status.Limit result w.sink.bytes w.sink.bytes_after w.sink.faults w.sink.faults_after → Drilled most result w
 over_limit most name n result w over_it still told = refused most w (Limit name n) status.Limit result (over name n over_it still) (λ bytes. inl (name, n, over_it, still, bytes)) told

@@ -9,8 +9,9 @@ use Rattle.ec_script.specs.Lines.{lines_of}
 use Rattle.ec_drill.specs.Limits.{most_bytes, most_lines}
 use Rattle.ec_drill.specs.Script.{AreRead}
 use Rattle.ec_drill.specs.Lines.{read_of}
-use Rattle.ec_drill.specs.Drill.{Outside, IsDiskUntouched, Drilled}
-use Rattle.ec_drill.specs.Starts.{GivesScript, Withholds, RefusedWith}
+use Rattle.ec_drill.specs.Drill.{Outside, IsDiskUntouched, IsGiven, Drilled}
+use Rattle.ec_drill.specs.Seen.{Stream}
+use Rattle.ec_drill.specs.Starts.{Withholds, RefusedWith}
 use Rattle.ec_drill.specs.declared.script.ScriptLine.{ScriptLine}
 use Rattle.ec_drill.specs.declared.start.Withheld.{Withheld}
 use Rattle.ec_drill.specs.declared.start.Withheld.TheVariants as why
@@ -24,26 +25,16 @@ as_many [] (r ∷ rs) are = absurd are
 as_many (b ∷ bs) [] are = absurd are
 as_many (b ∷ bs) (r ∷ rs) are = ap suc (as_many bs rs are.1)
 
-pub few_read : (left left_after : Option (List ℕ)) (ls : List ScriptLine) → GivesScript left left_after (map read_of ls) → length ls ≤ most_lines
-few_read left left_after ls g = omega (arith, as_many (lines_of g.script) (map read_of ls) g.read, length-map ls read_of, g.few_lines)
+pub few_read : (source : Stream) (ls : List ScriptLine) → IsGiven source (map read_of ls) → length ls ≤ most_lines
+few_read source ls g = omega (arith, as_many (lines_of g.script) (map read_of ls) g.read, length-map ls read_of, g.few_lines)
 
 -- a source that was read, and a sink that was written to; the disk isn't touched
 abbrev pub idle : Option (List ℕ) → Option (List ℕ) → ℕ → ℕ → Option (List ℕ) → Option (List ℕ) → ℕ → ℕ → Type 0 → View → Counts → Outside
 idle left left_after reads reads_after held now writes later tells disk counts =
     record {
-      left = left;
-      left_after = left_after;
-      reads = reads;
-      reads_after = reads_after;
-      held = held;
-      held_after = now;
-      writes = writes;
-      writes_after = later;
-      tells = tells;
-      disk = disk;
-      disk_after = disk;
-      counts = counts;
-      counts_after = counts;
+      source = record { bytes = left; bytes_after = left_after; faults = reads; faults_after = reads_after };
+      sink = record { bytes = held; bytes_after = now; faults = writes; faults_after = later };
+      store = record { tells = tells; disk = disk; disk_after = disk; counts = counts; counts_after = counts };
     }
 
 module _ (most : ℕ) (result : Status) (left left_after : Option (List ℕ)) (reads reads_after : ℕ) (held now : Option (List ℕ)) (writes later : ℕ) (tells : Type 0) (disk : View) (counts : Counts) where

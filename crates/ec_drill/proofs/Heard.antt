@@ -6,7 +6,8 @@ use Rattle.ec_disk.specs.Disk.{Counts}
 use Rattle.ec_protocol.specs.World.{Fate, runs, stops_without, stops_with}
 use Rattle.ec_protocol.specs.Drill.{Fates}
 use Rattle.ec_drill.specs.ArmedSteps.{IsCalm, heard}
-use Rattle.ec_drill.specs.Fates.{EachRuns, IsKnown}
+use Rattle.ec_history.specs.History.{Each}
+use Rattle.ec_drill.specs.Fates.{AllRun, IsKnown}
 use Rattle.ec_drill.specs.RunFates.{AreOf}
 use Rattle.ec_drill.specs.Steps.{Fares, IsLater}
 use Rattle.ec_drill.proofs.Known.{none_is_some}
@@ -72,7 +73,7 @@ heard_none true e tells old new = absurd (apart e)
     apart : true ≡ false → ⊥
     apart e = cc
 
-pub heard_stops : (m : Bool) (fates : List Fates) (first mid new : Counts) → first.stops ≤ mid.stops → AreOf fates (heard m mid).stops (heard m new).stops → EachRuns fates ⊎ ((m ≡ true) × Rose first.stops new.stops)
+pub heard_stops : (m : Bool) (fates : List Fates) (first mid new : Counts) → first.stops ≤ mid.stops → AreOf fates (heard m mid).stops (heard m new).stops → Each AllRun fates ⊎ ((m ≡ true) × Rose first.stops new.stops)
 heard_stops m fates first mid new le (inl all) = inl all
 heard_stops true fates first mid new le (inr r) = inr (refl, rose_later first.stops mid.stops new.stops le r)
 heard_stops false fates first mid new le (inr r) = absurd (never_rose r)

@@ -10,7 +10,8 @@ use Rattle.ec_protocol.specs.Drill.{Fates}
 use Rattle.ec_protocol.specs.declared.world.Event.{Event}
 use Rattle.ec_protocol.specs.declared.world.Event.TheVariants as event
 use Rattle.ec_world.specs.StepEnds.{HasStopped, FateOf, IsTold, CountsOf, behind_arm}
-use Rattle.ec_drill.specs.Fates.{AllRun, EachRuns, IsKnown}
+use Rattle.ec_history.specs.History.{Each}
+use Rattle.ec_drill.specs.Fates.{AllRun, IsKnown}
 use Rattle.ec_drill.specs.RunFates.{AreOf}
 use Rattle.ec_drill.specs.Steps.{Fares, AreOfLine}
 use Rattle.ec_base.proofs.OutsideLemmas.{rose_later}
@@ -84,7 +85,7 @@ runs-push : (fs : Fates) (f : Fate) → AllRun fs → f ≡ runs → AllRun (fs 
 runs-push [] f h e = (e, tt)
 runs-push (g ∷ fs) f h e = (h.0, runs-push fs f h.1 e)
 
-each-push : (fs : List Fates) (f : Fates) → EachRuns fs → AllRun f → EachRuns (fs ++ f ∷ [])
+each-push : (fs : List Fates) (f : Fates) → Each AllRun fs → AllRun f → Each AllRun (fs ++ f ∷ [])
 each-push [] f h e = (e, tt)
 each-push (g ∷ fs) f h e = (h.0, each-push fs f h.1 e)
 

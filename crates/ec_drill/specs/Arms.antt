@@ -1,5 +1,6 @@
 -- Lines that arm the disk, and the steps that it stops. Where no line arms it, none is stopped.
-use Rattle.std.specs.Prelude.{◌≡◌, ◌||◌, ◌+◌, ◌≤◌, ℕ, zero, suc, Bool, true, false, List, [], ◌∷◌, Option, None, Some, IsSome, MatchOption}
+use Rattle.std.specs.Prelude.{◌≡◌, ◌+◌, ◌≤◌, ℕ, zero, suc, Bool, true, false, List, [], ◌∷◌, Option, None, Some, IsSome, MatchOption}
+use Rattle.std.specs.List.{list_any}
 use Rattle.ec_disk.specs.Disk.{NoneDue, after_calls}
 use Rattle.ec_protocol.specs.World.{Fate, runs, stops_without, stops_with, Moving, moving, deliver, due, forget, pending}
 use Rattle.ec_protocol.specs.Drill.{Fates, Read, reads, unfit, this_fate, later_fates, first_fates, rest_fates, onward, line_happens, carry_out, max_pending}
@@ -19,8 +20,7 @@ is_arm_read (unfit column) = false
 
 -- one of these lines arms the disk
 abbrev pub any_arm : List Read → Bool
-any_arm [] = false
-any_arm (r ∷ rs) = is_arm_read r || any_arm rs
+any_arm rs = list_any is_arm_read rs
 
 -- What a step from one world to the next makes of the arm of the disk, by its fate. One that runs takes its reads, writes and syncs, none of which is
 -- the one that stops. One that stops does so on an armed disk, ends the arm, and shows `stopped`. Its record is left by the turn for which the disk was armed and

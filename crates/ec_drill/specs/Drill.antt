@@ -1,5 +1,5 @@
 -- What a drill does with its source, its sink and its disk.
-use Rattle.std.specs.Prelude.{◌≡◌, true, false, ◌<◌, ◌≤◌, ◌⊎◌, ◌+◌, ℕ, List, [], ◌++◌, length, Option, None, Ok, Err}
+use Rattle.std.specs.Prelude.{◌≡◌, true, false, ◌<◌, ◌≤◌, ◌⊎◌, ◌+◌, ℕ, List, [], ◌++◌, length, None, Ok, Err}
 use Rattle.std.specs.Io.KnownBytes.{Consumes, Appends, Keeps, IsAtEnd}
 use Rattle.ec_base.specs.Outside.{Rose}
 use Rattle.ec_disk.specs.Disk.{View, Counts}
@@ -16,61 +16,54 @@ use Rattle.ec_protocol.specs.World.{open_world}
 use Rattle.ec_protocol.specs.Drill.{Read, Fates, Ran, run_from, bound, close, drill}
 use Rattle.ec_world.specs.Steps.{Opens}
 use Rattle.ec_drill.specs.Limits.{most_bytes, most_lines}
+use Rattle.ec_drill.specs.Seen.{Stream, Store}
 use Rattle.ec_drill.specs.Script.{AreRead}
 use Rattle.ec_drill.specs.Arms.{RunArms, any_arm}
-use Rattle.ec_drill.specs.Fates.{EachRuns, IsKnown}
+use Rattle.ec_history.specs.History.{Each}
+use Rattle.ec_drill.specs.Fates.{AllRun, IsKnown}
 use Rattle.ec_drill.specs.Cuts.{IsCutFront, IsPartOf}
 use Rattle.ec_drill.specs.Left.{LeavesOf}
 use Rattle.ec_drill.specs.declared.status.Status.{Status}
 use Rattle.ec_drill.specs.declared.status.Status.TheVariants as status
 
--- A source, a sink and a disk, before and after: the bytes left and held, where told, what the disk holds, and the counts.
+-- a source, a sink and a disk
 pub record Outside : Type 1 where
-  pub left : Option (List ℕ)
-  pub left_after : Option (List ℕ)
-  pub reads : ℕ
-  pub reads_after : ℕ
-  pub held : Option (List ℕ)
-  pub held_after : Option (List ℕ)
-  pub writes : ℕ
-  pub writes_after : ℕ
-  -- whether the disk tells its content
-  pub tells : Type 0
-  pub disk : View
-  pub disk_after : View
-  pub counts : Counts
-  pub counts_after : Counts
+  pub source : Stream
+  pub sink : Stream
+  pub store : Store
 
 -- nothing was written
 abbrev pub IsSilent : Outside → Type 0
-IsSilent w = Keeps w.held w.held_after
+IsSilent w = Keeps w.sink.bytes w.sink.bytes_after
 
 -- the disk wasn't touched
 pub record IsDiskUntouched (w : Outside) : Type 0 where
-  pub gives : w.disk_after.gives ≡ w.disk.gives
-  pub crash : (image : List ℕ) → w.disk_after.may_leave image → w.disk.may_leave image
-  pub counts : w.counts_after ≡ w.counts
+  pub gives : w.store.disk_after.gives ≡ w.store.disk.gives
+  pub crash : (image : List ℕ) → w.store.disk_after.may_leave image → w.store.disk.may_leave image
+  pub counts : w.store.counts_after ≡ w.store.counts
 
 -- the source was read to its end and gave this script
 pub record IsScript (w : Outside) (script : List ℕ) : Type 0 where
-  pub given : Consumes w.left w.left_after script
-  pub at_end : IsAtEnd w.left_after
+  pub given : Consumes w.source.bytes w.source.bytes_after script
+  pub at_end : IsAtEnd w.source.bytes_after
   pub few_bytes : length script ≤ most_bytes
 
--- a script within the limits, of these lines
-pub record IsGiven (w : Outside) (reads : List Read) : Type 0 where
+-- the source was read to its end, and gave these lines, within the limits
+pub record IsGiven (source : Stream) (reads : List Read) : Type 0 where
   pub script : List ℕ
-  pub is_script : IsScript w script
+  pub given : Consumes source.bytes source.bytes_after script
+  pub at_end : IsAtEnd source.bytes_after
+  pub few_bytes : length script ≤ most_bytes
   pub few_lines : length (lines_of script) ≤ most_lines
   pub read : AreRead (lines_of script) reads
 
 -- A step is stopped only where a line of the script arms the disk, and the disk's stops rose.
 abbrev pub AreStops : Outside → List Read → List Fates → Type 0
-AreStops w reads fates = EachRuns fates ⊎ ((any_arm reads ≡ true) × Rose w.counts.stops w.counts_after.stops)
+AreStops w reads fates = Each AllRun fates ⊎ ((any_arm reads ≡ true) × Rose w.store.counts.stops w.store.counts_after.stops)
 
 -- Whether it's known what the disk did in each step. It is where no line arms it.
 abbrev pub IsToldAll : Outside → List Read → Type 0
-IsToldAll w reads = IsKnown w.tells w.counts.stops w.counts_after.stops ⊎ (any_arm reads ≡ false)
+IsToldAll w reads = IsKnown w.store.tells w.store.counts.stops w.store.counts_after.stops ⊎ (any_arm reads ≡ false)
 
 -- A disk stands for a state: what a read gives does, and each image that a crash may leave.
 pub record HoldsState (now : View) (state : Durable) : Type 0 where
@@ -88,10 +81,10 @@ state_after reads fates d = elim (open_world d) [ Err n ↦ d | Ok start ↦ (en
 -- A run that ended by itself: all its lines were written, of which the last one says why it ended early.
 pub record RanWhole (most number : ℕ) (w : Outside) : Type 0 where
   pub reads : List Read
-  pub given : IsGiven w reads
+  pub given : IsGiven w.source reads
   -- the disk stood for this state; an empty one was formatted
   pub state : Durable
-  pub opens : Opens w.tells w.disk.gives most state
+  pub opens : Opens w.store.tells w.store.disk.gives most state
   -- what the disk did in each step
   pub fates : List Fates
   pub stopped : AreStops w reads fates
@@ -101,40 +94,40 @@ pub record RanWhole (most number : ℕ) (w : Outside) : Type 0 where
   pub shown : List Shown
   pub lines : IsToldAll w reads → (drill reads fates state).0 ≡ shown
   pub status : IsToldAll w reads → (drill reads fates state).1 ≡ number
-  pub bytes : Appends w.held w.held_after (text_of shown)
+  pub bytes : Appends w.sink.bytes w.sink.bytes_after (text_of shown)
   -- the disk stands for the machine's state
-  pub disk : w.tells → HoldsState w.disk_after (state_after reads fates state)
+  pub disk : w.store.tells → HoldsState w.store.disk_after (state_after reads fates state)
 
 -- A run that was cut off: a front of its lines was written, and perhaps a part of the next one. Whatever a crash leaves of the disk stands for the
 -- state at a moment of the run by which all that was written had been shown.
 pub record RanInPart (most : ℕ) (w : Outside) (last : List ℕ) : Type 0 where
   pub reads : List Read
-  pub given : IsGiven w reads
+  pub given : IsGiven w.source reads
   pub state : Durable
-  pub opens : Opens w.tells w.disk.gives most state
+  pub opens : Opens w.store.tells w.store.disk.gives most state
   pub fates : List Fates
   pub stopped : AreStops w reads fates
   pub shown : List Shown
   pub unwritten : List Shown
   pub front : IsToldAll w reads → (rest : List Shown) × ((drill reads fates state).0 ≡ shown ++ (unwritten ++ rest))
-  pub bytes : Appends w.held w.held_after (text_of shown ++ last)
+  pub bytes : Appends w.sink.bytes w.sink.bytes_after (text_of shown ++ last)
   pub part : IsPartOf unwritten last
-  pub left : w.tells → LeavesOf w.disk_after reads fates state (open_world state) shown
+  pub left : w.store.tells → LeavesOf w.store.disk_after reads fates state (open_world state) shown
 
 -- The source has too much: more bytes than the limit, of which one more than the limit was read, or too many lines.
 abbrev pub IsOver : Outside → LimitName → ℕ → Type 0
-IsOver w limit.Bytes n = (n ≡ most_bytes + 1) × (bytes : List ℕ) × Consumes w.left w.left_after bytes × (length bytes ≡ n)
+IsOver w limit.Bytes n = (n ≡ most_bytes + 1) × (bytes : List ℕ) × Consumes w.source.bytes w.source.bytes_after bytes × (length bytes ≡ n)
 IsOver w limit.Lines n = (script : List ℕ) × IsScript w script × (n ≡ length (lines_of script)) × (most_lines < n)
 IsOver w limit.Pending n = ⊥
 
 -- The disk isn't empty, stands for no state, and this is its first bad place. It gives what it gave.
 abbrev pub IsBad : Outside → ℕ → Type 0
-IsBad w place = w.tells → (length w.disk.gives ≡ 0 → ⊥) × IsBadAt w.disk.gives place × (w.disk_after.gives ≡ w.disk.gives)
+IsBad w place = w.store.tells → (length w.store.disk.gives ≡ 0 → ⊥) × IsBadAt w.store.disk.gives place × (w.store.disk_after.gives ≡ w.store.disk.gives)
 
 -- Why nothing was carried out, with the line that says so.
 pub data Unbegun (w : Outside) : Shown → Type 0 where
   over : (name : LimitName) (n : ℕ) → IsOver w name n → IsDiskUntouched w → Unbegun w (Limit name n)
-  bad : (place : ℕ) (reads : List Read) → IsGiven w reads → IsBad w place → Unbegun w (DiskBad place)
+  bad : (place : ℕ) (reads : List Read) → IsGiven w.source reads → IsBad w place → Unbegun w (DiskBad place)
 
 -- nothing was carried out, and the sink took a part of the line that says so
 pub record RefusedInPart (w : Outside) : Type 0 where
@@ -142,7 +135,7 @@ pub record RefusedInPart (w : Outside) : Type 0 where
   pub why : Unbegun w line
   pub last : List ℕ
   pub part : (last ≡ []) ⊎ IsCutFront (shown_text line) last
-  pub bytes : Appends w.held w.held_after last
+  pub bytes : Appends w.sink.bytes w.sink.bytes_after last
 
 -- a run that was cut off between two lines, or before the first
 abbrev pub IsCutClean : ℕ → Outside → Type 0
@@ -157,10 +150,10 @@ abbrev pub Drilled : ℕ → Status → Outside → Type 0
 Drilled most status.Done w = RanWhole most 0 w
 Drilled most status.Usage w = ⊥
 Drilled most status.BadLine w = RanWhole most 3 w
-Drilled most status.SourceFault w = Rose w.reads w.reads_after × IsSilent w × IsDiskUntouched w
-Drilled most status.SinkFault w = Rose w.writes w.writes_after × IsCut most w
-Drilled most status.DiskFault w = Rose w.counts.faults w.counts_after.faults × IsCutClean most w
-Drilled most status.BadDisk w = (place : ℕ) × (reads : List Read) × IsGiven w reads × IsBad w place × Appends w.held w.held_after (shown_text (DiskBad place))
+Drilled most status.SourceFault w = Rose w.source.faults w.source.faults_after × IsSilent w × IsDiskUntouched w
+Drilled most status.SinkFault w = Rose w.sink.faults w.sink.faults_after × IsCut most w
+Drilled most status.DiskFault w = Rose w.store.counts.faults w.store.counts_after.faults × IsCutClean most w
+Drilled most status.BadDisk w = (place : ℕ) × (reads : List Read) × IsGiven w.source reads × IsBad w place × Appends w.sink.bytes w.sink.bytes_after (shown_text (DiskBad place))
 Drilled most status.NoMemory w = IsCut most w ⊎ IsSilent w
-Drilled most status.Limit w = ((name : LimitName) × (n : ℕ) × IsOver w name n × IsDiskUntouched w × Appends w.held w.held_after (shown_text (Limit name n))) ⊎ RanWhole most 11 w
+Drilled most status.Limit w = ((name : LimitName) × (n : ℕ) × IsOver w name n × IsDiskUntouched w × Appends w.sink.bytes w.sink.bytes_after (shown_text (Limit name n))) ⊎ RanWhole most 11 w
 Drilled most status.Spent w = RanWhole most 15 w

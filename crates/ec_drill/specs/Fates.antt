@@ -1,16 +1,12 @@
 -- What the disk did in the steps of a run, and whether that is known.
-use Rattle.std.specs.Prelude.{◌≡◌, ◌⊎◌, ℕ, List, [], ◌∷◌}
+use Rattle.std.specs.Prelude.{◌≡◌, ◌⊎◌, ℕ}
 use Rattle.ec_base.specs.Outside.{Rose}
+use Rattle.ec_history.specs.History.{Each}
 use Rattle.ec_protocol.specs.World.{runs}
 use Rattle.ec_protocol.specs.Drill.{Fates}
 
 abbrev pub AllRun : Fates → Type 0
-AllRun [] = Unit {0}
-AllRun (f ∷ fs) = (f ≡ runs) × AllRun fs
-
-abbrev pub EachRuns : List Fates → Type 0
-EachRuns [] = Unit {0}
-EachRuns (fs ∷ more) = AllRun fs × EachRuns more
+AllRun fates = Each (λ f. f ≡ runs) fates
 
 -- What a stop leaves is read back from the disk. So what a run did is known on a disk that tells its content, and on one that didn't stop.
 abbrev pub IsKnown : Type 0 → ℕ → ℕ → Type 0

@@ -1,4 +1,5 @@
 pub mod Limits
+pub mod Seen
 pub mod Script
 pub mod Lines
 pub mod Arms

@@ -12,7 +12,7 @@ use Rattle.ec_protocol.specs.declared.world.World.{World}
 use Rattle.ec_protocol.specs.declared.world.WorldFault.{WorldFault}
 use Rattle.ec_protocol.specs.declared.world.WorldFault.TheVariants as fault
 use Rattle.ec_drill.specs.Limits.{most_bytes, most_lines}
-use Rattle.ec_drill.specs.Script.{AreRead}
+use Rattle.ec_drill.specs.Seen.{Stream}
 use Rattle.ec_drill.specs.Arms.{RunArms}
 use Rattle.ec_drill.specs.Fates.{IsKnown}
 use Rattle.ec_drill.specs.RunFates.{AreOf}
@@ -24,15 +24,6 @@ use Rattle.ec_drill.specs.declared.status.Status.{Status}
 use Rattle.ec_drill.specs.declared.status.Status.TheVariants as status
 use Rattle.ec_drill.specs.declared.writing.Cut.{Cut}
 use Rattle.ec_drill.specs.declared.writing.Cut.TheVariants as cut
-
--- the source was read to its end and gave a script within the limits
-pub record GivesScript (left left_after : Option (List ℕ)) (reads : List Read) : Type 0 where
-  pub script : List ℕ
-  pub given : Consumes left left_after script
-  pub at_end : IsAtEnd left_after
-  pub few_bytes : length script ≤ most_bytes
-  pub few_lines : length (lines_of script) ≤ most_lines
-  pub read : AreRead (lines_of script) reads
 
 abbrev pub Withholds : Option (List ℕ) → Option (List ℕ) → ℕ → ℕ → Withheld → Type 0
 Withholds left left_after faults later why.Bytes = (bytes : List ℕ) × Consumes left left_after bytes × (length bytes ≡ most_bytes + 1)
@@ -88,6 +79,4 @@ DrilledOn status.BadDisk tells old new seen reads start held now writes later = 
 -- The drill of these lines, whatever source gave them.
 abbrev pub DrillsOver : ℕ → List Read → Status → Outside → Type 0
 DrillsOver most lines st w =
-    (left left_after : Option (List ℕ)) (reads reads_after : ℕ)
-    → IsGiven (record w { left = left; left_after = left_after; reads = reads; reads_after = reads_after }) lines
-    → Drilled most st (record w { left = left; left_after = left_after; reads = reads; reads_after = reads_after })
+    (source : Stream) → IsGiven source lines → Drilled most st (record w { source = source })

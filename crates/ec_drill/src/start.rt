@@ -6,10 +6,10 @@ ghost use Rattle.ec_words.specs.OfText.Lines.{shown_text};
 ghost use Rattle.ec_world.specs.Worlds.{view_of, IsInStep};
 ghost use Rattle.ec_drill.specs.Arms.{any_arm};
 ghost use Rattle.ec_drill.specs.ArmedSteps.{IsCalm, heard};
-ghost use Rattle.ec_drill.specs.Drill.{Drilled};
+ghost use Rattle.ec_drill.specs.Drill.{IsGiven, Drilled};
 ghost use Rattle.ec_drill.specs.Lines.{read_of};
 ghost use Rattle.ec_drill.specs.Limits.{most_lines};
-ghost use Rattle.ec_drill.specs.Starts.{GivesScript, Withholds, RefusedWith, TellsUnopened, DrilledOn, DrillsOver, status_of};
+ghost use Rattle.ec_drill.specs.Starts.{Withholds, RefusedWith, TellsUnopened, DrilledOn, DrillsOver, status_of};
 ghost use Rattle.ec_protocol.specs.Drill.{bound as bound_over};
 ghost use Rattle.ec_drill.specs.Steps.{IsLater};
 
@@ -45,19 +45,9 @@ pub fn drill<S: Source, K: Sink, D: CrashDisk>(
     ensures counts { ((D.counts disk.old).faults ≤ (D.counts disk.new).faults) × ((D.counts disk.old).stops ≤ (D.counts disk.new).stops) }
     ensures drilled { Drilled max_objects result
         (record {
-          left = S.left source.old;
-          left_after = S.left source.new;
-          reads = S.faults source.old;
-          reads_after = S.faults source.new;
-          held = K.held sink.old;
-          held_after = K.held sink.new;
-          writes = K.faults sink.old;
-          writes_after = K.faults sink.new;
-          tells = D.tells;
-          disk = D.view disk.old;
-          disk_after = D.view disk.new;
-          counts = D.counts disk.old;
-          counts_after = D.counts disk.new;
+          source = record { bytes = S.left source.old; bytes_after = S.left source.new; faults = S.faults source.old; faults_after = S.faults source.new };
+          sink = record { bytes = K.held sink.old; bytes_after = K.held sink.new; faults = K.faults sink.old; faults_after = K.faults sink.new };
+          store = record { tells = D.tells; disk = D.view disk.old; disk_after = D.view disk.new; counts = D.counts disk.old; counts_after = D.counts disk.new };
         }) }
 {
     match script_of(alloc, source) {
@@ -98,7 +88,7 @@ enum Withheld {
 // The lines of the script that the source gives, read to its end.
 fn script_of<S: Source>(alloc: Global, source: &mut S) -> Result<Vec<ScriptLine>, Withheld>
     ensures given { MatchResult result
-        (λ lines. GivesScript (S.left source.old) (S.left source.new) (map read_of lines.items))
+        (λ lines. IsGiven (record { bytes = S.left source.old; bytes_after = S.left source.new; faults = S.faults source.old; faults_after = S.faults source.new }) (map read_of lines.items))
         (λ why. Withholds (S.left source.old) (S.left source.new) (S.faults source.old) (S.faults source.new) why) }
     ensures later { S.faults source.old ≤ S.faults source.new }
 {
@@ -134,19 +124,9 @@ fn drill_lines<K: Sink, D: CrashDisk>(
     ensures counts { IsLater (D.counts disk.old) (D.counts disk.new) ⊥ }
     ensures drilled { DrillsOver max_objects (map read_of lines.items) result
         (record {
-          left = None;
-          left_after = None;
-          reads = 0;
-          reads_after = 0;
-          held = K.held sink.old;
-          held_after = K.held sink.new;
-          writes = K.faults sink.old;
-          writes_after = K.faults sink.new;
-          tells = D.tells;
-          disk = D.view disk.old;
-          disk_after = D.view disk.new;
-          counts = D.counts disk.old;
-          counts_after = D.counts disk.new;
+          source = record { bytes = None; bytes_after = None; faults = 0; faults_after = 0 };
+          sink = record { bytes = K.held sink.old; bytes_after = K.held sink.new; faults = K.faults sink.old; faults_after = K.faults sink.new };
+          store = record { tells = D.tells; disk = D.view disk.old; disk_after = D.view disk.new; counts = D.counts disk.old; counts_after = D.counts disk.new };
         }) }
 {
     let Ok(bound) = bound_of(alloc, &lines) else {

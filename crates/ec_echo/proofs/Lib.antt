@@ -1,5 +1,6 @@
 pub mod Plain
 mod Judging
+mod Mirrors
 mod Starts
 mod Greeting
 mod Usage

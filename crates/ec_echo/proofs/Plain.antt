@@ -1,5 +1,5 @@
 -- The scripts that the program makes are plain.
-use Rattle.std.proofs.Common.{◌≡◌, ◌≤◌, ◌+◌, ◌*◌, ℕ, Bool, List, [], ◌∷◌, length, Option, true, false, refl, sym, ap, subst, ◌∙◌, arith}
+use Rattle.std.proofs.Common.{◌≡◌, ◌≤◌, ◌+◌, ◌*◌, ℕ, Bool, List, [], ◌∷◌, length, Some, true, false, refl, sym, ap, subst, ◌∙◌, arith}
 use Rattle.ec_base.specs.Tables.{once}
 use Rattle.ec_history.specs.History.{Each}
 use Rattle.ec_plain.specs.declared.call.Call.{Call}
@@ -18,7 +18,6 @@ use Rattle.ec_machine_laws.specs.Answers.{Plainly}
 use Rattle.ec_complete.specs.Complete.{IsFaultlessRead}
 use Rattle.ec_complete.specs.PlainScripts.{ArePushed, IsPlainScript, behind_line, makes}
 use Rattle.ec_complete.specs.Rooms as rooms
-use Rattle.ec_drill.specs.Drill.{Outside}
 use Rattle.ec_drill.specs.Limits.{most_objects}
 use Rattle.ec_drill.specs.Script.{AreRead, machine_line}
 use Rattle.ec_drill.specs.OfPromise.Completes.{GivesPlainScript}
@@ -26,7 +25,6 @@ use Rattle.ec_drill.proofs.OfPromise.Named.{few-named}
 use Rattle.ec_script.specs.OfMade.Made as made
 use Rattle.ec_script.proofs.OfMade.Made.{made-lines-call}
 use Rattle.ec_echo.specs.Made.{made_lines}
-use Rattle.ec_echo.specs.SoakDrills.{within}
 use Rattle.ec_base.specs.Bools.{one_if, one_if as made_one_if}
 
 abbrev IsCall : MachineLine → Type 0
@@ -87,8 +85,8 @@ module _ (number : ℕ) where
       enough : (m n : ℕ) → m ≡ 500 → n ≤ 16 → m + 16 * n + 1 ≤ 1024
       enough m n is few = omega (arith, is, few)
 
-  pub made-plain : (left_after : Option (List ℕ)) (transcript : List ℕ) (w : Outside) → GivesPlainScript most_objects (within number left_after transcript w)
-  made-plain left_after transcript w =
+  pub made-plain : GivesPlainScript most_objects (Some (script_of number made_lines))
+  made-plain =
       let made = made-lines-call number made_lines (omega arith) in
       record {
         script = script_of number made_lines;

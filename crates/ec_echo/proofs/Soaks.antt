@@ -3,6 +3,7 @@ use Rattle.std.proofs.Common.{◌≡◌, ◌==◌, ℕ, true, List, [], ◌∷�
 use Rattle.std.specs.Prelude.{Result, Ok, Err, IfOk, MatchResult}
 use Rattle.ec_script.specs.Lines.{lines_of}
 use Rattle.ec_script.specs.OfGenerator.Generator.{script_of}
+use Rattle.ec_drill.specs.Seen.{Stream}
 use Rattle.ec_drill.specs.Drill.{Outside, Drilled}
 use Rattle.ec_drill.specs.Limits.{most_objects}
 use Rattle.ec_drill.specs.declared.status.Status as drilled
@@ -12,9 +13,9 @@ use Rattle.ec_drill.proofs.OfPromise.Lawful.{drills-lawful}
 use Rattle.ec_drill.proofs.OfPromise.Rooms.{drills-told}
 use Rattle.ec_drill.proofs.OfPromise.Spent.{drills-spent}
 use Rattle.ec_echo.proofs.Plain.{made-plain}
-use Rattle.ec_echo.specs.Soak.{AreSorts, IsSort, Told, TellsCounts, TellsLast, summary_text, last_text}
+use Rattle.ec_echo.specs.Soak.{AreSorts, IsSort, Told, TellsCounts, summary_text, last_text}
 use Rattle.ec_echo.specs.SoakDrills.{Soaked, within}
-use Rattle.ec_echo.specs.Written.{WroteWith, WroteNothing}
+use Rattle.ec_echo.specs.Written.{TellsText, WroteWith, WroteNothing}
 use Rattle.ec_echo.specs.declared.soaking.Sort.{Sort}
 use Rattle.ec_echo.specs.declared.status.Status.{Status}
 use Rattle.ec_echo.specs.declared.status.Status.TheVariants as status
@@ -49,22 +50,22 @@ counts_told (Err x) items number transcript result held now before later e w = i
 
 pub last_told : {X E : Type 0} (made : Result X E) (items : X → List ℕ) (transcript : List ℕ) (st result : Status) (held now : Option (List ℕ)) (before later : ℕ)
     → IfOk made (λ t. items t ≡ last_text transcript)
-    → MatchResult made (λ t. WroteWith (items t) st result held now before later) (λ e. WroteNothing result held now) → TellsLast transcript st result held now before later
+    → MatchResult made (λ t. WroteWith (items t) st result held now before later) (λ e. WroteNothing result held now) → TellsText (last_text transcript) st result held now before later
 last_told (Ok t) items transcript st result held now before later e w = inl (subst (λ xs. WroteWith xs st result held now before later) e w)
 last_told (Err x) items transcript st result held now before later e w = inr w
 
 -- whatever source there is beside it
-pub soaked_over : (number : ℕ) (result : Status) (w : Outside) (left left_after : Option (List ℕ)) (reads reads_after : ℕ) → Soaked number result w → Soaked number result (record w { left = left; left_after = left_after; reads = reads; reads_after = reads_after })
-soaked_over number result w left left_after reads reads_after (inl s) = inl (record { left_after = s.left_after; transcript = s.transcript; end = s.end; drilled_so = s.drilled_so; lawful = s.lawful; complete = λ new. s.complete (record { tells = new.tells; empty = new.empty }); room = s.room; spent = s.spent; told = s.told })
-soaked_over number result w left left_after reads reads_after (inr s) = inr (record { result_is = s.result_is; held = s.held; disk = record { gives = s.disk.gives; crash = s.disk.crash; counts = s.disk.counts } })
+pub soaked_over : (number : ℕ) (result : Status) (w : Outside) (source : Stream) → Soaked number result w → Soaked number result (record w { source = source })
+soaked_over number result w source (inl s) = inl (record { left_after = s.left_after; transcript = s.transcript; end = s.end; drilled_so = s.drilled_so; lawful = s.lawful; complete = λ new. s.complete (record { tells = new.tells; empty = new.empty }); room = s.room; spent = s.spent; told = s.told })
+soaked_over number result w source (inr s) = inr (record { result_is = s.result_is; held = s.held; disk = record { gives = s.disk.gives; crash = s.disk.crash; counts = s.disk.counts } })
 
 -- a drill from memory to memory, by what the source and the sink have before it
 pub soaked_by : (number : ℕ) (end : drilled.Status) (result : Status) (w : Outside) (script held : List ℕ) (left_after : Option (List ℕ)) (transcript : List ℕ) → script ≡ script_of number made_lines → held ≡ []
-    → Drilled most_objects end (record w { left = Some script; left_after = left_after; reads = 0; reads_after = 0; held = Some held; held_after = Some transcript; writes = 0; writes_after = 0 })
-    → Told number end transcript result w.held w.held_after w.writes w.writes_after → Soaked number result w
+    → Drilled most_objects end (record w { source = record { bytes = Some script; bytes_after = left_after; faults = 0; faults_after = 0 }; sink = record { bytes = Some held; bytes_after = Some transcript; faults = 0; faults_after = 0 } })
+    → Told number end transcript result w.sink.bytes w.sink.bytes_after w.sink.faults w.sink.faults_after → Soaked number result w
 soaked_by number end result w script held left_after transcript made empty did told =
-    let one = subst (λ (s : List ℕ). Drilled most_objects end (record w { left = Some s; left_after = left_after; reads = 0; reads_after = 0; held = Some held; held_after = Some transcript; writes = 0; writes_after = 0 })) made did in
-    let two = subst (λ (h : List ℕ). Drilled most_objects end (record w { left = Some (script_of number made_lines); left_after = left_after; reads = 0; reads_after = 0; held = Some h; held_after = Some transcript; writes = 0; writes_after = 0 })) empty one in
+    let one = subst (λ (s : List ℕ). Drilled most_objects end (record w { source = record { bytes = Some s; bytes_after = left_after; faults = 0; faults_after = 0 }; sink = record { bytes = Some held; bytes_after = Some transcript; faults = 0; faults_after = 0 } })) made did in
+    let two = subst (λ (h : List ℕ). Drilled most_objects end (record w { source = record { bytes = Some (script_of number made_lines); bytes_after = left_after; faults = 0; faults_after = 0 }; sink = record { bytes = Some h; bytes_after = Some transcript; faults = 0; faults_after = 0 } })) empty one in
     let lawful = drills-lawful most_objects end (within number left_after transcript w) two in
     inl (record {
       left_after = left_after;
@@ -72,7 +73,7 @@ soaked_by number end result w script held left_after transcript made empty did t
       end = end;
       drilled_so = two;
       lawful = lawful;
-      complete = λ new. (drills-complete most_objects end (within number left_after transcript w) two lawful (record { tells = new.tells; empty = new.empty }) (made-plain number left_after transcript w));
+      complete = λ new. (drills-complete most_objects end (within number left_after transcript w) two lawful (record { tells = new.tells; empty = new.empty }) (made-plain number));
       room = drills-told most_objects end (within number left_after transcript w) two;
       spent = drills-spent most_objects end (within number left_after transcript w) two;
       told = told;

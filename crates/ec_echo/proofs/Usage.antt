@@ -12,11 +12,11 @@ use Rattle.ec_mount.specs.declared.status.Status as mounted
 use Rattle.ec_mount.specs.declared.status.Status.TheVariants as mount
 use Rattle.ec_echo.specs.Echo.{Links}
 use Rattle.ec_echo.specs.Forms.{DoesForm, Echoes}
-use Rattle.ec_echo.specs.Soak.{Told, TellsCounts, TellsLast, summary_text, last_text}
+use Rattle.ec_echo.specs.Soak.{Told, TellsCounts, summary_text, last_text}
 use Rattle.ec_echo.specs.SoakDrills.{Soaked}
-use Rattle.ec_echo.specs.Serving.{TellsText, TellsEnding}
+use Rattle.ec_echo.specs.Serving.{TellsEnding}
 use Rattle.ec_echo.specs.Statuses.{code, of_drill, of_mount}
-use Rattle.ec_echo.specs.Written.{WroteWith}
+use Rattle.ec_echo.specs.Written.{TellsText, WroteWith}
 use Rattle.ec_echo.specs.Words.{Spells}
 use Rattle.ec_echo.specs.declared.command.Command.{Command}
 use Rattle.ec_echo.specs.declared.command.Command.TheVariants.{Drill, Check, Make, Soak, Serve, Mount}
@@ -57,9 +57,9 @@ wrote_not text st held now before later not (inl w) = not w.0
 wrote_not text st held now before later not (inr (inl w)) = absurd (grind (arith, w.0))
 wrote_not text st held now before later not (inr (inr w)) = absurd (grind (arith, w.0))
 
-last_not : (transcript : List ℕ) (st : Status) (held now : Option (List ℕ)) (before later : ℕ) → (status.Usage ≡ st → ⊥) → TellsLast transcript st status.Usage held now before later → ⊥
-last_not transcript st held now before later not (inl w) = wrote_not (last_text transcript) st held now before later not w
-last_not transcript st held now before later not (inr w) = absurd (grind (arith, w.0))
+text_not : (text : List ℕ) (st : Status) (held now : Option (List ℕ)) (before later : ℕ) → (status.Usage ≡ st → ⊥) → TellsText text st status.Usage held now before later → ⊥
+text_not text st held now before later not (inl w) = wrote_not text st held now before later not w
+text_not text st held now before later not (inr w) = absurd (grind (arith, w.0))
 
 counts_not : (number : ℕ) (transcript : List ℕ) (held now : Option (List ℕ)) (before later : ℕ) → TellsCounts number transcript status.Usage held now before later → ⊥
 counts_not number transcript held now before later (inl t) = wrote_not (summary_text number t.0) status.Done held now before later (λ e. absurd (grind (arith, e))) t.2
@@ -67,10 +67,10 @@ counts_not number transcript held now before later (inr w) = absurd (grind (arit
 
 told_not : (number : ℕ) (end : drilled.Status) (transcript : List ℕ) (held now : Option (List ℕ)) (before later : ℕ) → (end ≡ drill.Usage → ⊥) → Told number end transcript status.Usage held now before later → ⊥
 told_not number drill.Done transcript held now before later not t = counts_not number transcript held now before later t
-told_not number drill.BadLine transcript held now before later not t = last_not transcript status.BadLine held now before later (λ e. absurd (grind (arith, e))) t
-told_not number drill.BadDisk transcript held now before later not t = last_not transcript status.BadDisk held now before later (λ e. absurd (grind (arith, e))) t
-told_not number drill.Limit transcript held now before later not t = last_not transcript status.Limit held now before later (λ e. absurd (grind (arith, e))) t
-told_not number drill.Spent transcript held now before later not t = last_not transcript status.Spent held now before later (λ e. absurd (grind (arith, e))) t
+told_not number drill.BadLine transcript held now before later not t = text_not (last_text transcript) status.BadLine held now before later (λ e. absurd (grind (arith, e))) t
+told_not number drill.BadDisk transcript held now before later not t = text_not (last_text transcript) status.BadDisk held now before later (λ e. absurd (grind (arith, e))) t
+told_not number drill.Limit transcript held now before later not t = text_not (last_text transcript) status.Limit held now before later (λ e. absurd (grind (arith, e))) t
+told_not number drill.Spent transcript held now before later not t = text_not (last_text transcript) status.Spent held now before later (λ e. absurd (grind (arith, e))) t
 told_not number drill.Usage transcript held now before later not t = not refl
 told_not number drill.SourceFault transcript held now before later not t = absurd (grind (arith, t.0))
 told_not number drill.SinkFault transcript held now before later not t = absurd (grind (arith, t.0))
@@ -82,12 +82,8 @@ drilled_not : (most : ℕ) (end : drilled.Status) (w : Outside) → Drilled most
 drilled_not most end w d e = subst (λ (x : drilled.Status). Drilled most x w) e d
 
 soaked_not : (number : ℕ) (w : Outside) → Soaked number status.Usage w → ⊥
-soaked_not number w (inl s) = told_not number s.end s.transcript w.held w.held_after w.writes w.writes_after (drilled_not _ s.end _ s.drilled_so) s.told
+soaked_not number w (inl s) = told_not number s.end s.transcript w.sink.bytes w.sink.bytes_after w.sink.faults w.sink.faults_after (drilled_not _ s.end _ s.drilled_so) s.told
 soaked_not number w (inr s) = absurd (grind (arith, s.result_is))
-
-text_not : (text : List ℕ) (st : Status) (held now : Option (List ℕ)) (before later : ℕ) → (status.Usage ≡ st → ⊥) → TellsText text st status.Usage held now before later → ⊥
-text_not text st held now before later not (inl w) = wrote_not text st held now before later not w
-text_not text st held now before later not (inr w) = absurd (grind (arith, w.0))
 
 ending_not : (end : Ending) (held now : Option (List ℕ)) (before later : ℕ) → TellsEnding end status.Usage held now before later → ⊥
 ending_not ending.Done held now before later t = absurd (grind (arith, t.0))
@@ -116,7 +112,7 @@ does_not boot (Drill most) w n d = drill_not most d.0.0 w d.0.2 d.0.1
 does_not boot (Check most) w n d = absurd (d.0.0.1)
 does_not boot (Make number) w n d = d.0.0
 does_not boot (Soak number) w n d = soaked_not number w d.0.0
-does_not boot (Serve count) w n d = ending_not d.0.0 w.held w.held_after w.writes w.writes_after d.0.2
+does_not boot (Serve count) w n d = ending_not d.0.0 w.sink.bytes w.sink.bytes_after w.sink.faults w.sink.faults_after d.0.2
 does_not boot (Mount clerk) w n d = mount_not d.0 d.1
 
 -- words of no form, and no others, come to this status

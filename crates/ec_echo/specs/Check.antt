@@ -1,5 +1,5 @@
 -- What the program tells of a transcript.
-use Rattle.std.specs.Prelude.{◌≡◌, ◌⊎◌, ℕ, List, [], ◌∷◌, ◌++◌, codes, Option}
+use Rattle.std.specs.Prelude.{◌≡◌, ◌⊎◌, ℕ, List, [], ◌∷◌, ◌++◌, codes}
 use Rattle.std.specs.Fmt.{decimal}
 use Rattle.std.specs.Io.KnownBytes.{Appends}
 use Rattle.ec_base.specs.Outside.{Rose}
@@ -11,20 +11,10 @@ use Rattle.ec_words.specs.OfText.Lines.{shown_text}
 use Rattle.ec_check.specs.Checked.{IsChecked, IsRefused}
 use Rattle.ec_check.specs.declared.checking.Checked.TheVariants as checked
 use Rattle.ec_check.specs.declared.checking.CheckFault.TheVariants as fault
+use Rattle.ec_drill.specs.Seen.{Stream}
 use Rattle.ec_echo.specs.Written.{WroteInPart}
 use Rattle.ec_echo.specs.declared.status.Status.{Status}
 use Rattle.ec_echo.specs.declared.status.Status.TheVariants as status
-
--- A source and a sink, before and after: the bytes left and held, where told, and the counts of faults.
-pub record Streams : Type 0 where
-  pub left : Option (List ℕ)
-  pub left_after : Option (List ℕ)
-  pub reads : ℕ
-  pub reads_after : ℕ
-  pub held : Option (List ℕ)
-  pub held_after : Option (List ℕ)
-  pub writes : ℕ
-  pub writes_after : ℕ
 
 abbrev pub rule_text : Rule → List ℕ
 rule_text rule.Shape = codes "shape"
@@ -48,24 +38,24 @@ illegal_text n r = codes "illegal " ++ decimal n ++ codes " " ++ rule_text r ++ 
 
 -- What the transcript is, with the status and the line that tell it: it's legal; this is its first fault; a line is outside the
 -- grammar; there are too many bytes.
-abbrev pub Finds : ℕ → Streams → Status → List ℕ → Type 0
-Finds most s status.Done text = IsChecked s.left s.left_after most checked.Legal × (text ≡ legal_text)
-Finds most s status.Illegal text = (n : ℕ) × (r : Rule) × IsChecked s.left s.left_after most (checked.Illegal n r) × (text ≡ illegal_text n r)
-Finds most s status.BadLine text = (n : ℕ) × (column : ℕ) × IsRefused s.left s.left_after s.reads s.reads_after (fault.BadLine n column) × (text ≡ shown_text (shown.Bad n column))
-Finds most s status.Limit text = (n : ℕ) × IsRefused s.left s.left_after s.reads s.reads_after (fault.Limit n) × (text ≡ shown_text (shown.Limit limit.Bytes n))
-Finds most s _ text = ⊥
+abbrev pub Finds : ℕ → Stream → Status → List ℕ → Type 0
+Finds most source status.Done text = IsChecked source.bytes source.bytes_after most checked.Legal × (text ≡ legal_text)
+Finds most source status.Illegal text = (n : ℕ) × (r : Rule) × IsChecked source.bytes source.bytes_after most (checked.Illegal n r) × (text ≡ illegal_text n r)
+Finds most source status.BadLine text = (n : ℕ) × (column : ℕ) × IsRefused source.bytes source.bytes_after source.faults source.faults_after (fault.BadLine n column) × (text ≡ shown_text (shown.Bad n column))
+Finds most source status.Limit text = (n : ℕ) × IsRefused source.bytes source.bytes_after source.faults source.faults_after (fault.Limit n) × (text ≡ shown_text (shown.Limit limit.Bytes n))
+Finds most source _ text = ⊥
 
 -- the line that tells what the transcript is was written
-abbrev pub Tells : ℕ → Status → Streams → Type 0
-Tells most st s = (text : List ℕ) × Finds most s st text × Appends s.held s.held_after text
+abbrev pub Tells : ℕ → Status → Stream → Stream → Type 0
+Tells most st source sink = (text : List ℕ) × Finds most source st text × Appends sink.bytes sink.bytes_after text
 
 -- a part of that line was written
-abbrev pub TellsInPart : ℕ → Streams → Type 0
-TellsInPart most s = (st : Status) × (text : List ℕ) × Finds most s st text × WroteInPart text s.held s.held_after
+abbrev pub TellsInPart : ℕ → Stream → Stream → Type 0
+TellsInPart most source sink = (st : Status) × (text : List ℕ) × Finds most source st text × WroteInPart text sink.bytes sink.bytes_after
 
 -- Each status, by its causes, with what was written.
-abbrev pub Judged : ℕ → Status → Streams → Type 0
-Judged most status.SourceFault s = Rose s.reads s.reads_after × (s.held_after ≡ s.held)
-Judged most status.SinkFault s = Rose s.writes s.writes_after × TellsInPart most s
-Judged most status.NoMemory s = TellsInPart most s ⊎ (s.held_after ≡ s.held)
-Judged most st s = Tells most st s
+abbrev pub Judged : ℕ → Status → Stream → Stream → Type 0
+Judged most status.SourceFault source sink = Rose source.faults source.faults_after × (sink.bytes_after ≡ sink.bytes)
+Judged most status.SinkFault source sink = Rose sink.faults sink.faults_after × TellsInPart most source sink
+Judged most status.NoMemory source sink = TellsInPart most source sink ⊎ (sink.bytes_after ≡ sink.bytes)
+Judged most st source sink = Tells most st source sink

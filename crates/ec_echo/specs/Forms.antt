@@ -19,15 +19,15 @@ use Rattle.ec_echo.specs.declared.command.Command.{Command}
 use Rattle.ec_echo.specs.declared.command.Command.TheVariants.{Drill, Check, Make, Soak, Serve, Mount}
 use Rattle.ec_echo.specs.declared.status.Status.{Status}
 use Rattle.ec_echo.specs.declared.status.Status.TheVariants as status
-use Rattle.ec_echo.specs.Echo.{IsSourceUntouched, IsUntouched, Links, serving, mounting, Made, streams}
+use Rattle.ec_echo.specs.Echo.{IsSourceUntouched, IsUntouched, Links, serving, mounting, Made}
 
 -- What each form of words does. The lines that a drill wrote are lawful besides, also those of the drill of `soak`: they stand in one legal history of one uncached
 -- volume. Over a plain script on a new disk a drill ends well, unless something outside of it fails. A refusal for
 -- want of room tells counts within the number of objects, a counter that is spent is one that the disk keeps, and its servers serve no noted want before each open session has claimed or was ended.
 abbrev pub DoesAlone : Command → Status → Outside → Type 0
 DoesAlone (Drill most) st w = (end : drilled.Status) × (st ≡ of_drill end) × (did : Drilled most end w) × IsLawful most end w did × Completes most end w did × TellsRoom most end w did × TellsSpent most end w did × ClaimsComeFirst
-DoesAlone (Check most) st w = Judged most st (streams w) × IsDiskUntouched w
-DoesAlone (Make n) st w = Made n st w.held w.held_after w.writes w.writes_after × IsSourceUntouched w × IsDiskUntouched w
+DoesAlone (Check most) st w = Judged most st w.source w.sink × IsDiskUntouched w
+DoesAlone (Make n) st w = Made n st w.sink.bytes w.sink.bytes_after w.sink.faults w.sink.faults_after × IsSourceUntouched w × IsDiskUntouched w
 DoesAlone (Soak n) st w = Soaked n st w × IsSourceUntouched w
 DoesAlone (Serve count) st w = ⊥
 DoesAlone (Mount c) st w = ⊥
@@ -38,7 +38,7 @@ DoesForm boot (Drill most) st w n = DoesAlone (Drill most) st w × (n.later ≡ 
 DoesForm boot (Check most) st w n = DoesAlone (Check most) st w × (n.later ≡ n.before)
 DoesForm boot (Make number) st w n = DoesAlone (Make number) st w × (n.later ≡ n.before)
 DoesForm boot (Soak number) st w n = DoesAlone (Soak number) st w × (n.later ≡ n.before)
-DoesForm boot (Serve count) st w n = Served count st w.held w.held_after w.writes w.writes_after (serving w n) × IsSourceUntouched w
+DoesForm boot (Serve count) st w n = Served count st w.sink.bytes w.sink.bytes_after w.sink.faults w.sink.faults_after (serving w n) × IsSourceUntouched w
 DoesForm boot (Mount c) st w n = (end : mounted.Status) × (st ≡ of_mount end) × Mounts c boot end (mounting w n) × Greets c boot end (mounting w n).net (mounting w n).net_after × IsDiskUntouched w × StartsAs end n.before.starts n.later.starts
 
 -- Words of no form touch nothing; any others do what they spell, with its causes and what was written.

@@ -10,4 +10,5 @@ pub mod Serving
 pub mod Greeting
 pub mod Echo
 pub mod Forms
+pub mod Mirroring
 pub mod OfNamed

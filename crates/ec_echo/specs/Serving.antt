@@ -1,18 +1,14 @@
 -- What the program tells of a server that ended.
-use Rattle.std.specs.Prelude.{◌⊎◌, ℕ, List, Option}
+use Rattle.std.specs.Prelude.{ℕ, List, Option}
 use Rattle.ec_history.specs.declared.shown.Shown.TheVariants as shown
 use Rattle.ec_words.specs.OfText.Lines.{shown_text}
 use Rattle.ec_serve.specs.Serve.{Outside, Serves}
 use Rattle.ec_serve.specs.declared.ending.Ending.{Ending}
 use Rattle.ec_serve.specs.declared.ending.Ending.TheVariants as ending
 use Rattle.ec_echo.specs.Soak.{TellsNothing}
-use Rattle.ec_echo.specs.Written.{WroteWith, WroteNothing}
+use Rattle.ec_echo.specs.Written.{TellsText}
 use Rattle.ec_echo.specs.declared.status.Status.{Status}
 use Rattle.ec_echo.specs.declared.status.Status.TheVariants as status
-
--- this text was written, with this status, or a part of it, or nothing
-abbrev pub TellsText : List ℕ → Status → Status → Option (List ℕ) → Option (List ℕ) → ℕ → ℕ → Type 0
-TellsText text st result held now before later = WroteWith text st result held now before later ⊎ WroteNothing result held now
 
 -- Each ending has its status. A bad disk and a spent counter are told by a line.
 abbrev pub TellsEnding : Ending → Status → Option (List ℕ) → Option (List ℕ) → ℕ → ℕ → Type 0

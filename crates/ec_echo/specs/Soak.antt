@@ -11,7 +11,7 @@ use Rattle.ec_drill.specs.declared.status.Status as drilled
 use Rattle.ec_drill.specs.declared.status.Status.TheVariants as drill
 use Rattle.ec_echo.specs.Made.{made_lines}
 use Rattle.ec_echo.specs.Statuses.{of_drill}
-use Rattle.ec_echo.specs.Written.{WroteWith, WroteNothing}
+use Rattle.ec_echo.specs.Written.{TellsText, WroteWith, WroteNothing}
 use Rattle.ec_echo.specs.declared.soaking.Sort.{Sort}
 use Rattle.ec_echo.specs.declared.soaking.Sort.TheVariants as sort
 use Rattle.ec_echo.specs.declared.status.Status.{Status}
@@ -73,25 +73,21 @@ abbrev pub TellsCounts : ℕ → List ℕ → Status → Option (List ℕ) → O
 TellsCounts number transcript result held now before later =
     ((ss : List Sort) × AreSorts (lines_of transcript) ss × WroteWith (summary_text number ss) status.Done result held now before later) ⊎ WroteNothing result held now
 
--- the same of its last line, which says why the drill ended early
-abbrev pub TellsLast : List ℕ → Status → Status → Option (List ℕ) → Option (List ℕ) → ℕ → ℕ → Type 0
-TellsLast transcript st result held now before later = WroteWith (last_text transcript) st result held now before later ⊎ WroteNothing result held now
-
 -- no line says why
 abbrev pub TellsNothing : Status → Status → Option (List ℕ) → Option (List ℕ) → Type 0
 TellsNothing st result held now = (result ≡ st) × (now ≡ held)
 
--- What is written of a drill that ended so with this transcript.
+-- What is written of a drill that ended so with this transcript: its last line, where that says why it ended early.
 abbrev pub Told : ℕ → drilled.Status → List ℕ → Status → Option (List ℕ) → Option (List ℕ) → ℕ → ℕ → Type 0
 Told number drill.Done transcript result held now before later = TellsCounts number transcript result held now before later
-Told number drill.BadLine transcript result held now before later = TellsLast transcript status.BadLine result held now before later
-Told number drill.BadDisk transcript result held now before later = TellsLast transcript status.BadDisk result held now before later
-Told number drill.Limit transcript result held now before later = TellsLast transcript status.Limit result held now before later
-Told number drill.Spent transcript result held now before later = TellsLast transcript status.Spent result held now before later
+Told number drill.BadLine transcript result held now before later = TellsText (last_text transcript) status.BadLine result held now before later
+Told number drill.BadDisk transcript result held now before later = TellsText (last_text transcript) status.BadDisk result held now before later
+Told number drill.Limit transcript result held now before later = TellsText (last_text transcript) status.Limit result held now before later
+Told number drill.Spent transcript result held now before later = TellsText (last_text transcript) status.Spent result held now before later
 Told number end transcript result held now before later = TellsNothing (of_drill end) result held now
 
 -- there was no memory for the script
 pub record IsUnmade (result : Status) (w : Outside) : Type 0 where
   pub result_is : result ≡ status.NoMemory
-  pub held : w.held_after ≡ w.held
+  pub held : w.sink.bytes_after ≡ w.sink.bytes
   pub disk : IsDiskUntouched w

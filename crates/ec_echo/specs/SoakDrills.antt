@@ -15,14 +15,8 @@ use Rattle.ec_echo.specs.Soak.{Told, IsUnmade}
 -- a drill of the script of this number, from memory to memory, which don't fail
 abbrev pub within : ℕ → Option (List ℕ) → List ℕ → Outside → Outside
 within number left_after transcript w = record w {
-  left = Some (script_of number made_lines);
-  left_after = left_after;
-  reads = 0;
-  reads_after = 0;
-  held = Some [];
-  held_after = Some transcript;
-  writes = 0;
-  writes_after = 0;
+  source = record { bytes = Some (script_of number made_lines); bytes_after = left_after; faults = 0; faults_after = 0 };
+  sink = record { bytes = Some []; bytes_after = Some transcript; faults = 0; faults_after = 0 };
 }
 
 -- The script of this number was drilled over the disk, and what its transcript tells was written. The transcript's lines are lawful, and on a new disk the drill is
@@ -36,7 +30,7 @@ pub record Drills (number : ℕ) (result : Status) (w : Outside) : Type 0 where
   pub complete : HasNewDisk w → EndsPlainly most_objects end (within number left_after transcript w) drilled_so
   pub room : TellsRoom most_objects end (within number left_after transcript w) drilled_so
   pub spent : TellsSpent most_objects end (within number left_after transcript w) drilled_so
-  pub told : Told number end transcript result w.held w.held_after w.writes w.writes_after
+  pub told : Told number end transcript result w.sink.bytes w.sink.bytes_after w.sink.faults w.sink.faults_after
 
 abbrev pub Soaked : ℕ → Status → Outside → Type 0
 Soaked number result w = Drills number result w ⊎ IsUnmade result w

@@ -21,3 +21,7 @@ WroteWith text st result held now before later =
 -- there was no memory, and nothing was written
 abbrev pub WroteNothing : Status → Option (List ℕ) → Option (List ℕ) → Type 0
 WroteNothing result held now = (result ≡ status.NoMemory) × (now ≡ held)
+
+-- this text was written, with this status, or a part of it, or nothing
+abbrev pub TellsText : List ℕ → Status → Status → Option (List ℕ) → Option (List ℕ) → ℕ → ℕ → Type 0
+TellsText text st result held now before later = WroteWith text st result held now before later ⊎ WroteNothing result held now

@@ -108,7 +108,7 @@ behind-cut reads state pieces all xs more a e = go (cut-front xs more a.told a.l
       behind = first-behind (headline.placed_on (images state.volume) a.top) (length xs) (lines_in reads) [] pieces a.behind;
     }
 
-module _ (most : ℕ) (w : Outside) (reads : List Read) (given : IsGiven w reads) (state : Durable) (opens : Opens w.tells w.disk.gives most state) (fs : List Fates) (stopped : AreStops w reads fs) where
+module _ (most : ℕ) (w : Outside) (reads : List Read) (given : IsGiven w.source reads) (state : Durable) (opens : Opens w.store.tells w.store.disk.gives most state) (fs : List Fates) (stopped : AreStops w reads fs) where
   fit : AreFit reads
   fit = fit_script (lines_of given.script) reads given.read
 

@@ -8,7 +8,6 @@ use Rattle.ec_quiet.specs.OfDeliveries.Runs.{AllRun}
 use Rattle.ec_complete.specs.Complete.{IsFaultless, IsFaultlessRead}
 use Rattle.ec_drill.specs.Arms.{any_arm, is_arm, is_arm_read}
 use Rattle.ec_drill.specs.Drill.{AreStops, Outside}
-use Rattle.ec_drill.specs.Fates as fates
 
 one-calm : (l : Line) → IsFaultless l → is_arm l ≡ false
 one-calm line.Comment f = refl
@@ -31,16 +30,8 @@ none-arm [] a = refl
 none-arm (unfit column ∷ rs) a = absurd a.0
 none-arm (reads l column ∷ rs) a = ap (λ b. b || any_arm rs) (one-calm l a.0) ∙ none-arm rs a.1
 
-each-run : (fs : Fates) → fates.AllRun fs → AllRun fs
-each-run [] a = tt
-each-run (f ∷ fs) a = (a.0, each-run fs a.1)
-
-each-runs : (fs : List Fates) → fates.EachRuns fs → Each AllRun fs
-each-runs [] a = tt
-each-runs (f ∷ fs) a = (each-run f a.0, each-runs fs a.1)
-
 pub all-run : (w : Outside) (rs : List Read) (fs : List Fates) → AreStops w rs fs → Each IsFaultlessRead rs → Each AllRun fs
-all-run w rs fs (inl all) a = each-runs fs all
+all-run w rs fs (inl all) a = all
 all-run w rs fs (inr rose) a = absurd (apart (any_arm rs) rose.0 (none-arm rs a))
   where
     apart : (b : Bool) → b ≡ true → b ≡ false → ⊥

@@ -29,15 +29,15 @@ no-more xs bytes (Some ys) gave = let is = ap length gave ∙ length-append byte
 none : (x y : ⊥) → x ≡ y
 none x y = absurd x
 
-module _ (most : ℕ) (w : Outside) (new : HasNewDisk w) (given : GivesPlainScript most w) where
-  whole : (script : List ℕ) → Consumes w.left w.left_after script → IsAtEnd w.left_after → script ≡ given.script
-  whole script gave end = all-given given.script script w.left_after (subst (λ left. Consumes left w.left_after script) given.gives gave) end
+module _ (most : ℕ) (w : Outside) (new : HasNewDisk w) (given : GivesPlainScript most w.source.bytes) where
+  whole : (script : List ℕ) → Consumes w.source.bytes w.source.bytes_after script → IsAtEnd w.source.bytes_after → script ≡ given.script
+  whole script gave end = all-given given.script script w.source.bytes_after (subst (λ left. Consumes left w.source.bytes_after script) given.gives gave) end
 
-  plain : (reads : List Read) → IsGiven w reads → IsPlainScript most reads
-  plain reads g = let is = g.is_script in given.plain reads (subst (λ s. AreRead (lines_of s) reads) (whole g.script is.given is.at_end) g.read)
+  plain : (reads : List Read) → IsGiven w.source reads → IsPlainScript most reads
+  plain reads g = given.plain reads (subst (λ s. AreRead (lines_of s) reads) (whole g.script g.given g.at_end) g.read)
 
   within-limits : (name : LimitName) (n : ℕ) → IsOver w name n → ⊥
-  within-limits limit.Bytes n o = few n (length o.1) (length given.script) o.0 o.3 (no-more given.script o.1 w.left_after (subst (λ left. Consumes left w.left_after o.1) given.gives o.2)) given.few_bytes
+  within-limits limit.Bytes n o = few n (length o.1) (length given.script) o.0 o.3 (no-more given.script o.1 w.source.bytes_after (subst (λ left. Consumes left w.source.bytes_after o.1) given.gives o.2)) given.few_bytes
     where
       few : (n k m : ℕ) → n ≡ 1048576 + 1 → k ≡ n → k ≤ m → m ≤ 1048576 → ⊥
       few n k m a b c d = absurd (omega (arith, a, b, c, d))

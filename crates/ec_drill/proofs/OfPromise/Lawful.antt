@@ -7,6 +7,7 @@ use Rattle.ec_base.specs.declared.counter.Counter.{Counter}
 use Rattle.ec_disk.specs.Disk.{View}
 use Rattle.ec_volume.specs.Volume.{images}
 use Rattle.ec_volume.specs.declared.image.Image.TheVariants.{Gone}
+use Rattle.ec_history.specs.History.{Each}
 use Rattle.ec_history.specs.Placing.{EachLine, place}
 use Rattle.ec_history.specs.declared.shown.Shown.{Shown}
 use Rattle.ec_history.specs.declared.shown.Shown.TheVariants as show
@@ -27,7 +28,7 @@ use Rattle.ec_drill.specs.declared.status.Status.TheVariants as own
 use Rattle.ec_lawful.proofs.RunsInOrder.{run-in-order}
 use Rattle.ec_drill.specs.OfPromise.Left.{EndsStored, IsStoredIn, LeavesStored}
 use Rattle.ec_drill.specs.OfPromise.Pieces.{first_lines, pieces_in, pieces_of}
-use Rattle.ec_drill.specs.OfPromise.Spared.{LosesNothing}
+use Rattle.ec_drill.specs.OfPromise.Spared.{IsNoLoss}
 use Rattle.ec_drill.specs.OfPromise.Promise.{AreInOrder}
 use Rattle.ec_drill.specs.OfPromise.LawfulEnds.{AreLawfulOn, AreStoredOn, AreWholeOn, CutIsLawful, DrillsAreLawful, CleanIsLawful, IsLawful, MomentsAreStored, PartIsLawful, SpentIsLawful, WholeIsLawful, WholeState, base_on}
 use Rattle.ec_drill.proofs.OfPromise.Behind.{behind-kept, part-kept}
@@ -96,7 +97,7 @@ lawful-front reads state pieces all xs more a e = go (cut-front xs more a.told a
       counted = fewer _ _ _ (first-fewer (length xs) pieces) a.counted;
       numbered = first-numbered (length xs) 1 [] pieces a.numbered;
       ends = ends;
-      spared = λ s. subst (λ ls. LosesNothing (place ls)) (sym (first-are xs rest pieces (q ∙ a.in_pieces))) (lose-nothing a.lines (first_lines (length xs) pieces) ends s);
+      spared = λ s. subst (λ ls. Each IsNoLoss (place ls)) (sym (first-are xs rest pieces (q ∙ a.in_pieces))) (lose-nothing a.lines (first_lines (length xs) pieces) ends s);
       top = a.top;
       greatest = a.greatest;
       fronts = fronts-front state a.top xs rest (subst (FrontsAreLawful (base_on state a.top) state.max_objects) (sym q) a.fronts);
@@ -259,10 +260,10 @@ part-lawful most w last r = (lawful, stored)
           all-in-order r.reads r.fates r.state wf is.slots is.from_one fit,
         ))
 
-    stored : w.tells → ∥ LeavesStored w.disk_after r.reads r.fates r.state (open_world r.state) r.shown ∥₁
+    stored : w.store.tells → ∥ LeavesStored w.store.disk_after r.reads r.fates r.state (open_world r.state) r.shown ∥₁
     stored tells =
         let is = (r.opens).whole in
-        ∥∥₁_map is.formed (λ wf. leaves-stored w.disk_after r.reads r.fates r.state (whole-state r.state wf is.slots is.from_one) fit r.shown (open_world r.state) refl (r.left tells))
+        ∥∥₁_map is.formed (λ wf. leaves-stored w.store.disk_after r.reads r.fates r.state (whole-state r.state wf is.slots is.from_one) fit r.shown (open_world r.state) refl (r.left tells))
 
 cut-lawful : (most : ℕ) (w : Outside) (c : IsCut most w) → CutIsLawful most w c
 cut-lawful most w (inl part) = (part-lawful most w part.0 part.1, part-kept most w part.0 part.1)

@@ -4,7 +4,7 @@ use Rattle.std.proofs.Math.Logic.{∥∥₁_map}
 use Rattle.ec_drill.specs.Drill.{Outside, Drilled, IsCut, IsCutClean, IsToldAll, RanInPart, RanWhole}
 use Rattle.ec_drill.specs.declared.status.Status.{Status}
 use Rattle.ec_drill.specs.declared.status.Status.TheVariants as own
-use Rattle.ec_drill.specs.OfPromise.OfRooms.Rooms.{AreWithinRoom}
+use Rattle.ec_drill.specs.OfPromise.OfRooms.DrillRooms.{AreWithinRoom}
 use Rattle.ec_drill.proofs.OfPromise.OfRooms.Rooms.{drills-tell-room, front-within}
 use Rattle.ec_drill.specs.OfPromise.Rooms.{CleanTellsRoom, CutTellsRoom, PartTellsRoom, RoomIsTold, TellsRoom}
 use Rattle.ec_drill.proofs.OfPromise.Fit.{fit_script}

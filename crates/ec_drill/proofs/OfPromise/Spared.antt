@@ -1,15 +1,15 @@
 -- Where no line crashes a clerk or ends a session, nothing is lost.
 use Rattle.std.proofs.Common.{◌≡◌, ◌≤◌, ℕ, zero, suc, Bool, true, false, T, List, [], ◌∷◌, ◌++◌, length, take, refl, sym, ap, subst, ◌∙◌, arith}
-use Rattle.std.specs.Prelude.{◌==◌, ◌&&◌, if◌then◌else◌, not, is_some}
+use Rattle.std.specs.Prelude.{◌==◌, if◌then◌else◌, is_some}
 use Rattle.std.specs.List.{filter, list_all}
-use Rattle.ec_history.specs.History.{History}
+use Rattle.ec_history.specs.History.{Each, History}
 use Rattle.ec_history.specs.Placing.{EachLine, call_entry, line_entries, place, place_from, watch}
 use Rattle.ec_history.specs.declared.shown.Shown.{Shown}
 use Rattle.ec_history.specs.declared.shown.Shown.TheVariants as show
 use Rattle.ec_protocol.specs.declared.script.Line.{Line}
 use Rattle.ec_protocol.specs.declared.script.Line.TheVariants as line
 use Rattle.ec_lawful.specs.Headline.{AreEndsAsked, Lines, Pieces, ends, joined, may_end}
-use Rattle.ec_drill.specs.OfPromise.Spared.{LosesNothing, is_loss, spares}
+use Rattle.ec_drill.specs.OfPromise.Spared.{IsNoLoss, spares}
 use Rattle.ec_base.proofs.Bools.{and_parts-T}
 
 -- Lines that may end no session.
@@ -79,25 +79,20 @@ none-ended (s ∷ ss) n = (own-end s (λ c. (unchosen (ends c) s ss (n c)).0), n
 
 -- What they give.
 
-all-two : (h k : History) → LosesNothing h → LosesNothing k → LosesNothing (h ++ k)
+all-two : (h k : History) → Each IsNoLoss h → Each IsNoLoss k → Each IsNoLoss (h ++ k)
 all-two [] k p q = q
-all-two (e ∷ h) k p q = joined-two (not (is_loss e.1)) (list_all (λ x. not (is_loss x.1)) (h ++ k)) (and_parts-T (not (is_loss e.1)) (list_all (λ x. not (is_loss x.1)) h) p).0
-    (all-two h k (and_parts-T (not (is_loss e.1)) (list_all (λ x. not (is_loss x.1)) h) p).1 q)
-  where
-    joined-two : (a b : Bool) → T a → T b → T (a && b)
-    joined-two true b t u = u
-    joined-two false b t u = absurd t
+all-two (e ∷ h) k p q = (p.0, all-two h k p.1 q)
 
-line-calls : (past : List Shown) (s : Shown) (rest : List Shown) → is_end s ≡ false → LosesNothing (line_entries past s rest)
+line-calls : (past : List Shown) (s : Shown) (rest : List Shown) → is_end s ≡ false → Each IsNoLoss (line_entries past s rest)
 line-calls past (show.Ended d ns) rest e = absurd (never e)
   where
     never : true ≡ false → ⊥
     never f = absurd cc
 line-calls past (show.Answered l c cl a op) rest e = go (is_some (watch c past).untold)
   where
-    go : (b : Bool) → LosesNothing (if b then [] else call_entry past (show.Answered l c cl a op))
+    go : (b : Bool) → Each IsNoLoss (if b then [] else call_entry past (show.Answered l c cl a op))
     go true = tt
-    go false = tt
+    go false = (tt, tt)
 line-calls past (show.Waits l c cl) rest e = tt
 line-calls past (show.Durable c ns) rest e = tt
 line-calls past (show.Unseen c) rest e = tt
@@ -112,12 +107,12 @@ line-calls past (show.DiskBad k) rest e = tt
 line-calls past (show.Limit k n) rest e = tt
 line-calls past (show.Spent k) rest e = tt
 
-calls-alone : (past ss : List Shown) → EachLine (λ s. is_end s ≡ false) ss → LosesNothing (place_from past ss)
+calls-alone : (past ss : List Shown) → EachLine (λ s. is_end s ≡ false) ss → Each IsNoLoss (place_from past ss)
 calls-alone past [] n = tt
 calls-alone past (s ∷ ss) n = all-two (line_entries past s ss) (place_from (past ++ s ∷ []) ss) (line-calls past s ss n.0) (calls-alone (past ++ s ∷ []) ss n.1)
 
 -- So nothing is lost in pieces that have no more ends than their lines that may end a session, of which there are none.
-pub lose-nothing : (lines : Lines) (pieces : Pieces) → AreEndsAsked lines pieces → T (list_all spares (take (length pieces) lines)) → LosesNothing (place (joined pieces))
+pub lose-nothing : (lines : Lines) (pieces : Pieces) → AreEndsAsked lines pieces → T (list_all spares (take (length pieces) lines)) → Each IsNoLoss (place (joined pieces))
 lose-nothing lines pieces asked s = calls-alone [] (joined pieces) (none-ended (joined pieces) none)
   where
     all : (k : ℕ) (ps : Pieces) → length ps ≤ k → take k ps ≡ ps

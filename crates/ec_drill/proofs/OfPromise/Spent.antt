@@ -3,8 +3,7 @@ use Rattle.std.proofs.Common.{arith, subst, inl, inr, ◌≤◌, ℕ, List, [], 
 use Rattle.ec_durable.specs.declared.state.Durable.{Durable}
 use Rattle.ec_script.specs.Lines.{lines_of}
 use Rattle.ec_protocol.specs.Drill.{Fates, Read, drill}
-use Rattle.ec_drill.specs.OfPromise.OfSpent.Spent.{AllSpendFew}
-use Rattle.ec_drill.specs.OfPromise.OfSpent.SpentDrills.{most_lines}
+use Rattle.ec_drill.specs.OfPromise.OfSpent.SpentDrills.{AllSpendFew, most_lines}
 use Rattle.ec_drill.proofs.OfPromise.OfSpent.Drills.{drills-spend-few, front-few}
 use Rattle.ec_drill.specs.Drill.{Outside, Drilled, IsCut, IsCutClean, IsGiven, RanInPart, RanWhole}
 use Rattle.ec_drill.specs.declared.status.Status.{Status}
@@ -14,7 +13,7 @@ use Rattle.ec_drill.proofs.OfPromise.Named.{few-named}
 use Rattle.ec_drill.proofs.Given.{as_many as as-many}
 
 -- the machine's drill over the script
-machine-spent : (w : Outside) (reads : List Read) (given : IsGiven w reads) (fates : List Fates) (d : Durable) → AllSpendFew (drill reads fates d).0
+machine-spent : (w : Outside) (reads : List Read) (given : IsGiven w.source reads) (fates : List Fates) (d : Durable) → AllSpendFew (drill reads fates d).0
 machine-spent w reads given fates d = drills-spend-few reads fates d few (few-named (lines_of given.script) reads given.read)
   where
     few : length reads ≤ most_lines

@@ -40,7 +40,7 @@ pub record AreBehindOn (reads : List Read) (state : Durable) (pieces : Pieces) (
 
 -- So it is on a disk that tells its content, with a script of comments, calls and pushes: of a run that ended by itself, and of one that was cut off.
 abbrev pub IsKeptBehind : Outside → List Read → Durable → Pieces → List Shown → Type 0
-IsKeptBehind w reads state pieces shown = w.tells → Each IsFaultlessRead reads → ∥ AreBehindOn reads state pieces shown ∥₁
+IsKeptBehind w reads state pieces shown = w.store.tells → Each IsFaultlessRead reads → ∥ AreBehindOn reads state pieces shown ∥₁
 
 abbrev pub BehindIsKept : (most number : ℕ) (w : Outside) → RanWhole most number w → Type 0
 BehindIsKept most number w r = IsKeptBehind w r.reads r.state (pieces_of r.reads r.fates r.state) r.shown

@@ -3,7 +3,7 @@ use Rattle.std.specs.Prelude.{◌≡◌, ◌≤◌, ◌+◌, ℕ, T, List, [], �
 use Rattle.std.specs.List.{list_all}
 use Rattle.std.proofs.Common.{inl, inr}
 use Rattle.ec_volume.specs.Volume.{Fits, WellFormed, images}
-use Rattle.ec_history.specs.History.{Base, kept, updates}
+use Rattle.ec_history.specs.History.{Base, Each, kept, updates}
 use Rattle.ec_history.specs.Lines.{IsStored}
 use Rattle.ec_history.specs.Placing.{EachLine, place}
 use Rattle.ec_history.specs.declared.shown.Shown.{Shown}
@@ -21,7 +21,7 @@ use Rattle.ec_drill.specs.OfPromise.Behind.{BehindIsKept, PartIsKept}
 use Rattle.ec_complete.specs.Complete.{IsComplete}
 use Rattle.ec_complete.specs.PlainScripts.{IsPlainScript}
 use Rattle.ec_drill.specs.OfPromise.Pieces.{first_lines, pieces_of}
-use Rattle.ec_drill.specs.OfPromise.Spared.{LosesNothing, spares}
+use Rattle.ec_drill.specs.OfPromise.Spared.{IsNoLoss, spares}
 use Rattle.ec_drill.specs.OfPromise.Left.{EndsStored, IsStoredIn, LeavesStored, SaysWhy}
 use Rattle.ec_drill.specs.Drill.{Outside, Drilled, IsCut, IsCutClean, IsToldAll, RanWhole, RanInPart, state_after}
 use Rattle.ec_drill.specs.Left.{Moment}
@@ -59,7 +59,7 @@ pub record AreLawfulOn (reads : List Read) (state : Durable) (pieces : Pieces) (
   -- no session ends but by a crash or an end: up to each line no more of a clerk's sessions ended than such lines were carried out
   pub ends : AreEndsAsked lines pieces
   -- so nothing is lost where none of the lines of these pieces crashes a clerk or ends a session
-  pub spared : T (list_all spares (take (length pieces) lines)) → LosesNothing (place told)
+  pub spared : T (list_all spares (take (length pieces) lines)) → Each IsNoLoss (place told)
   -- each front of them has a history, which is legal on the volume at the beginning; what an fsync covers was durable; a new object has the id that is the
   -- greatest one of the volume plus the place of its call's line
   pub top : ℕ
@@ -88,8 +88,8 @@ SpentIsLawful most number w r = IsToldAll w r.reads → ∥ AreWholeOn r.reads r
 
 -- The disk tells its content, of which it had none.
 pub record HasNewDisk (w : Outside) : Type 0 where
-  pub tells : w.tells
-  pub empty : length w.disk.gives ≡ 0
+  pub tells : w.store.tells
+  pub empty : length w.store.disk.gives ≡ 0
 
 -- Of a run that ended by itself on a new disk: where its script is plain, which its lines alone tell, its status is 0, no line says that messages didn't settle,
 -- and its answers are those of one plain volume to all calls of the script, so that none waits.
@@ -100,7 +100,7 @@ PlainIsComplete most number w r = HasNewDisk w → IsPlainScript most r.reads �
 abbrev pub PartIsLawful : (most : ℕ) (w : Outside) (last : List ℕ) → RanInPart most w last → Type 0
 PartIsLawful most w last r =
     (IsToldAll w r.reads → ∥ AreLawfulOn r.reads r.state (first_lines (length r.shown) (pieces_of r.reads r.fates r.state)) r.shown × AreInOrder r.reads r.fates r.state ∥₁)
-    × (w.tells → ∥ LeavesStored w.disk_after r.reads r.fates r.state (open_world r.state) r.shown ∥₁)
+    × (w.store.tells → ∥ LeavesStored w.store.disk_after r.reads r.fates r.state (open_world r.state) r.shown ∥₁)
 
 abbrev pub CutIsLawful : (most : ℕ) (w : Outside) → IsCut most w → Type 0
 CutIsLawful most w (inl part) = PartIsLawful most w part.0 part.1 × PartIsKept most w part.0 part.1

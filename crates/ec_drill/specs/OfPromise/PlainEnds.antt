@@ -21,4 +21,4 @@ EndsPlainly most _ w d = ⊥
 
 -- So ends a drill over such a script on a disk that tells its content, of which it had none.
 abbrev pub Completes : (most : ℕ) (end : Status) (w : Outside) → Drilled most end w → Type 0
-Completes most end w d = HasNewDisk w → GivesPlainScript most w → EndsPlainly most end w d
+Completes most end w d = HasNewDisk w → GivesPlainScript most w.source.bytes → EndsPlainly most end w d

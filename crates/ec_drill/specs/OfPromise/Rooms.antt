@@ -4,7 +4,7 @@ use Rattle.std.proofs.Common.{inl, inr}
 use Rattle.ec_history.specs.declared.shown.Shown.{Shown}
 use Rattle.ec_durable.specs.declared.state.Durable.{Durable}
 use Rattle.ec_protocol.specs.Drill.{Read}
-use Rattle.ec_drill.specs.OfPromise.OfRooms.Rooms.{AreWithinRoom}
+use Rattle.ec_drill.specs.OfPromise.OfRooms.DrillRooms.{AreWithinRoom}
 use Rattle.ec_drill.specs.Drill.{Outside, Drilled, IsCut, IsCutClean, IsToldAll, RanInPart}
 use Rattle.ec_drill.specs.declared.status.Status.{Status}
 use Rattle.ec_drill.specs.declared.status.Status.TheVariants as status

@@ -3,7 +3,7 @@ use Rattle.std.specs.Prelude.{ℕ, List, [], ⊤}
 use Rattle.std.proofs.Common.{inl, inr}
 use Rattle.ec_history.specs.declared.shown.Shown.{Shown}
 use Rattle.ec_protocol.specs.Drill.{Read}
-use Rattle.ec_drill.specs.OfPromise.OfSpent.Spent.{AllSpendFew}
+use Rattle.ec_drill.specs.OfPromise.OfSpent.SpentDrills.{AllSpendFew}
 use Rattle.ec_drill.specs.Drill.{Outside, Drilled, IsCut, IsCutClean, IsToldAll, RanInPart}
 use Rattle.ec_drill.specs.declared.status.Status.{Status}
 use Rattle.ec_drill.specs.declared.status.Status.TheVariants as status

@@ -16,8 +16,12 @@ use Rattle.ec_drill.specs.OfPromise.Left.{SaysWhy}
 use Rattle.ec_drill.specs.Cuts.{IsCutFront, IsPartOf}
 use Rattle.ec_drill.specs.Drill.{RefusedInPart}
 use Rattle.ec_echo.specs.OfNamed.Forms.{outside}
-use Rattle.ec_echo.specs.OfNamed.Seen.{Stream, Store}
-use Rattle.ec_echo.specs.OfNamed.Told.{BarsRun, EndsEarly, IsPart, WroteNone}
+use Rattle.ec_drill.specs.Seen.{Stream, Store}
+use Rattle.ec_echo.specs.OfNamed.Told.{BarsRun, EndsEarly, WroteNone}
+
+-- nothing, or a front of a line
+abbrev pub IsPart : List ℕ → Type 0
+IsPart part = (part ≡ []) ⊎ ((s : Shown) × IsCutFront (shown_text s) part)
 
 kept-none : (held now : Option (List ℕ)) → Keeps held now → Appends held now []
 kept-none None now k = k

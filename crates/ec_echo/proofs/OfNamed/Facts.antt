@@ -27,13 +27,13 @@ use Rattle.ec_drill.specs.declared.status.Status.TheVariants as own
 use Rattle.ec_echo.specs.Statuses.{code, of_drill}
 use Rattle.ec_echo.specs.OfNamed.Forms.{outside}
 use Rattle.ec_echo.specs.OfNamed.Runs.{IsUncut}
-use Rattle.ec_echo.specs.OfNamed.Seen.{Stream, Store}
-use Rattle.ec_echo.specs.OfNamed.Told.{IsPart, WroteNone}
-use Rattle.ec_echo.proofs.OfNamed.Bytes.{is-part, line-wrote, more-none, refused-wrote, silent-wrote}
+use Rattle.ec_drill.specs.Seen.{Stream, Store}
+use Rattle.ec_echo.specs.OfNamed.Told.{WroteNone}
+use Rattle.ec_echo.proofs.OfNamed.Bytes.{IsPart, is-part, line-wrote, more-none, refused-wrote, silent-wrote}
 
 pub record Facts (most result : ℕ) (source sink : Stream) (store : Store) : Type 0 where
   pub reads : List Read
-  pub given : IsGiven (outside source sink store) reads
+  pub given : IsGiven source reads
   pub state : Durable
   pub opens : Opens store.tells store.disk.gives most state
   -- the lines, in these pieces, and a part of one

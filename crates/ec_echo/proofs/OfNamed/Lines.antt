@@ -10,10 +10,11 @@ use Rattle.ec_history.specs.History.{Base}
 use Rattle.ec_history.specs.declared.shown.Shown.{Shown}
 use Rattle.ec_words.specs.OfText.Lines.{text_of}
 use Rattle.ec_lawful.specs.Headline.{AreLawful, placed_on}
-use Rattle.ec_drill.specs.OfPromise.OfRooms.Rooms.{AreWithinRoom}
+use Rattle.ec_drill.specs.OfPromise.OfRooms.DrillRooms.{AreWithinRoom}
 use Rattle.ec_drill.proofs.OfPromise.OfRooms.Rooms.{front-within}
 use Rattle.ec_drill.specs.OfPromise.LawfulEnds.{AreLawfulOn}
-use Rattle.ec_echo.specs.OfNamed.Seen.{Stream, Store, IsNew}
+use Rattle.ec_drill.specs.Seen.{Stream, Store}
+use Rattle.ec_echo.specs.OfNamed.Seen.{IsNew}
 use Rattle.ec_echo.specs.OfNamed.Told.{HoldsOfLines, OfLines, OnFronts, Wrote, WroteLines, WroteNone}
 use Rattle.ec_echo.proofs.OfNamed.Bytes.{ends-early, formatted-greatest}
 use Rattle.ec_echo.proofs.OfNamed.Facts.{Facts}

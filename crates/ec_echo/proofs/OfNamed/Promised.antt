@@ -11,7 +11,7 @@ use Rattle.ec_history.specs.declared.entry.Entry.{Entry}
 use Rattle.ec_history.specs.declared.entry.Entry.TheVariants as entry
 use Rattle.ec_history.specs.declared.shown.Shown.{Shown}
 use Rattle.ec_lawful.specs.Headline.{AreLawful}
-use Rattle.ec_drill.specs.OfPromise.OfRooms.Rooms.{AreWithinRoom}
+use Rattle.ec_drill.specs.OfPromise.OfRooms.DrillRooms.{AreWithinRoom}
 use Rattle.ec_drill.specs.Drill.{Outside, Drilled}
 use Rattle.ec_drill.specs.declared.status.Status as drilled
 use Rattle.ec_drill.specs.declared.status.Status.TheVariants as drill
@@ -39,7 +39,7 @@ use Rattle.ec_echo.specs.declared.status.Status.TheVariants as status
 use Rattle.ec_echo.specs.OfNamed.Forms.{Asks, DoesCheck, DoesDrill, DoesMake, DoesMount, DoesServe, IsAlone, OnCheck, OnDrill, OnMake, OnMount, OnServe, OnSoak, TouchesNothing, outside}
 use Rattle.ec_echo.specs.OfNamed.Promises.{ExactReports, Fsync, History, IsExactAt, IsLawfulAt, IsPlainAt, LawfulLosses, LinesInPlace, OfEntries, PlainReplies, Room}
 use Rattle.ec_echo.specs.OfNamed.Runs.{Causes, Complete, OwnCalls, Sessions, Spent, Stores, Together, WriteBehind}
-use Rattle.ec_echo.specs.OfNamed.Seen.{Stream, Store}
+use Rattle.ec_drill.specs.Seen.{Stream, Store}
 use Rattle.ec_echo.specs.OfNamed.Soaks.{DoesSoak, SoaksOnce, made, transcribed}
 use Rattle.ec_echo.specs.OfNamed.States.{DiskOfCut, InOrder, Leaves, StatesInOrder}
 use Rattle.ec_echo.specs.OfNamed.Told.{OfLines, WroteLines, WroteNone}
@@ -238,7 +238,7 @@ module _ (boot : ℕ) (words : List (List ℕ)) (result : ℕ) (source sink : St
         transcript = s.transcript;
         end = s.end;
         drilled_so = s.drilled_so;
-        plain = made-plain number s.left_after s.transcript w;
+        plain = made-plain number;
         complete = complete most_objects (code (of_drill s.end)) from to store s.end refl s.drilled_so known;
         together = together most_objects (code (of_drill s.end)) from to store known;
         spent = spends-few most_objects (code (of_drill s.end)) from to store known;

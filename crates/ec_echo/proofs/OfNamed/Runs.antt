@@ -9,9 +9,9 @@ use Rattle.ec_volume.specs.Volume.{images}
 use Rattle.ec_protocol.specs.Drill.{Read}
 use Rattle.ec_lawful.specs.Drills.{lines_in}
 use Rattle.ec_lawful.specs.Headline.{placed_on}
-use Rattle.ec_drill.specs.OfPromise.OfRooms.Rooms.{AreWithinRoom}
+use Rattle.ec_drill.specs.OfPromise.OfRooms.DrillRooms.{AreWithinRoom}
 use Rattle.ec_drill.proofs.OfPromise.OfRooms.Rooms.{front-within}
-use Rattle.ec_drill.specs.OfPromise.OfSpent.Spent.{AllSpendFew}
+use Rattle.ec_drill.specs.OfPromise.OfSpent.SpentDrills.{AllSpendFew}
 use Rattle.ec_complete.specs.Complete.{IsComplete, IsFaultlessRead}
 use Rattle.ec_complete.specs.Pieces.{ArePiecesBehind}
 use Rattle.ec_complete.specs.PlainScripts.{IsPlainScript}
@@ -25,10 +25,11 @@ use Rattle.ec_drill.specs.declared.status.Status.{Status}
 use Rattle.ec_drill.specs.declared.status.Status.TheVariants as own
 use Rattle.ec_echo.specs.Statuses.{code, of_drill}
 use Rattle.ec_echo.specs.OfNamed.Forms.{outside}
-use Rattle.ec_echo.specs.OfNamed.Runs.{AreBehind, AreLawfulTogether, AreOwn, AreStored, Causes, Complete, EndAsAsked, Gave, IsUncut, OfRun, OwnCalls, Sessions, Spent, Stores, Together, WriteBehind}
-use Rattle.ec_echo.specs.OfNamed.Seen.{Stream, Store, GivesAsBefore, IsNew}
+use Rattle.ec_echo.specs.OfNamed.Runs.{AreBehind, AreLawfulTogether, AreOwn, AreStored, Causes, Complete, EndAsAsked, IsUncut, OfRun, OwnCalls, Sessions, Spent, Stores, Together, WriteBehind}
+use Rattle.ec_drill.specs.Seen.{Stream, Store}
+use Rattle.ec_echo.specs.OfNamed.Seen.{GivesAsBefore, IsNew}
 use Rattle.ec_echo.specs.OfNamed.Told.{HoldsOfLines, WroteNone}
-use Rattle.ec_echo.proofs.OfNamed.Bytes.{ends-early, one-greatest}
+use Rattle.ec_echo.proofs.OfNamed.Bytes.{one-greatest}
 use Rattle.ec_echo.proofs.OfNamed.Facts.{Facts}
 use Rattle.ec_echo.proofs.OfNamed.Lines.{held}
 
@@ -39,19 +40,16 @@ module _ (most result : ℕ) (source sink : Stream) (store : Store) where
   abbrev base-of : (f : Facts most result source sink store) → AreLawfulOn f.reads f.state f.pieces f.shown → Base
   base-of f a = placed_on (images f.state.volume) a.top
 
-  gave-of : (reads : List Read) → IsGiven w reads → Gave source reads
-  gave-of reads g = record { script = g.script; given = (g.is_script).given; at_end = (g.is_script).at_end; few_bytes = (g.is_script).few_bytes; few_lines = g.few_lines; read = g.read }
-
   of-run : (P : List Read → Base → ℕ → List Shown → List Shown → Type 0) → ((f : Facts most result source sink store) → IsToldAll w f.reads → ∥ HoldsOfLines most result sink store (P f.reads) ∥₁)
       → Facts most result source sink store ⊎ WroteNone result sink → OfRun P result source sink store most
-  of-run P from (inl f) = inl (record { reads = f.reads; gave = gave-of f.reads f.given; holds = from f })
+  of-run P from (inl f) = inl (record { reads = f.reads; gave = f.given; holds = from f })
   of-run P from (inr wrote) = inr wrote
 
   own-of : (f : Facts most result source sink store) (a : AreLawfulOn f.reads f.state f.pieces f.shown) → AreOwn f.reads (base-of f a) f.state.max_objects a.told a.last
   own-of f a = record { lines = a.lines; front = a.front; own = a.own_calls }
 
   asked-of : (f : Facts most result source sink store) (a : AreLawfulOn f.reads f.state f.pieces f.shown) → EndAsAsked f.reads (base-of f a) f.state.max_objects a.told a.last
-  asked-of f a = record { lines = a.lines; front = a.front; pieces = f.pieces; in_pieces = a.in_pieces; counted = a.counted; numbered = a.numbered; ends = a.ends; spared = a.spared }
+  asked-of f a = record { own = record { lines = a.lines; front = a.front; own = a.own_calls }; pieces = f.pieces; in_pieces = a.in_pieces; counted = a.counted; numbered = a.numbered; ends = a.ends; spared = a.spared }
 
   pub own-calls : Facts most result source sink store ⊎ WroteNone result sink → OwnCalls result source sink store most
   own-calls = of-run AreOwn (λ f told. ∥∥₁_map (f.lawful told) (λ a. held most result source sink store (AreOwn f.reads) f a (own-of f a)))
@@ -60,7 +58,7 @@ module _ (most result : ℕ) (source sink : Stream) (store : Store) where
   end-as-asked = of-run EndAsAsked (λ f told. ∥∥₁_map (f.lawful told) (λ a. held most result source sink store (EndAsAsked f.reads) f a (asked-of f a)))
 
   together-of : (f : Facts most result source sink store) (a : AreLawfulOn f.reads f.state f.pieces f.shown) → AreWithinRoom f.state.max_objects f.shown → AreLawfulTogether f.reads (base-of f a) f.state.max_objects a.told a.last
-  together-of f a room = record { fronts = a.fronts; room = front-within f.state.max_objects a.told a.last (subst (AreWithinRoom f.state.max_objects) a.written room); own = own-of f a; ends = asked-of f a }
+  together-of f a room = record { fronts = a.fronts; room = front-within f.state.max_objects a.told a.last (subst (AreWithinRoom f.state.max_objects) a.written room); ends = asked-of f a }
 
   pub together : Facts most result source sink store ⊎ WroteNone result sink → Together result source sink store most
   together = of-run AreLawfulTogether (λ f told. ∥∥₁_map₂ (f.lawful told) (f.room told) (λ a room. held most result source sink store (AreLawfulTogether f.reads) f a (together-of f a room)))
@@ -99,17 +97,12 @@ module _ (most result : ℕ) (source sink : Stream) (store : Store) where
   -- Write-behind.
 
   abbrev Behind : List Read → Base → ℕ → List Shown → List Shown → Type 0
-  Behind reads base limit told why = store.tells → Each IsFaultlessRead reads → ∥ AreBehind reads base (told ++ why) ∥₁
+  Behind reads base limit told why = store.tells → Each IsFaultlessRead reads → ∥ AreBehind reads base told ∥₁
 
   lies-behind : (f : Facts most result source sink store) (a : AreLawfulOn f.reads f.state f.pieces f.shown) → Behind f.reads (placed_on (images f.state.volume) a.top) f.state.max_objects a.told a.last
   lies-behind f a tells faultless = ∥∥₁_map (f.behind tells faultless) (λ (b : AreBehindOn f.reads f.state f.pieces f.shown). record {
-    told = b.told;
-    last = b.last;
-    written = sym a.written ∙ b.written;
-    at_most_one = b.at_most_one;
-    why = ends-early b.last b.why;
     pieces = f.pieces;
-    in_pieces = b.in_pieces;
+    in_pieces = a.in_pieces;
     numbered = b.numbered;
     behind = subst (λ (top : ℕ). ArePiecesBehind (placed_on (images f.state.volume) top) (lines_in f.reads) [] f.pieces) (one-greatest (images f.state.volume) b.top a.top b.greatest a.greatest) b.behind;
   })
@@ -139,7 +132,7 @@ module _ (most result : ℕ) (source sink : Stream) (store : Store) where
   IsStatus number = T (list_any (λ n. n == number) (0 ∷ 3 ∷ 4 ∷ 5 ∷ 6 ∷ 7 ∷ 9 ∷ 11 ∷ 15 ∷ []))
 
   causes-of : (number : ℕ) → IsStatus number → result ≡ number → (number ≡ 4 → Rose source.faults source.faults_after × GivesAsBefore store) → (number ≡ 5 → Rose sink.faults sink.faults_after) → (number ≡ 6 → Rose store.counts.faults store.counts_after.faults)
-      → (number ≡ 7 → store.tells → (length store.disk.gives ≡ 0 → ⊥) × GivesAsBefore store) → (number ≡ 11 → GivesAsBefore store ⊎ ((reads : List Read) × Gave source reads)) → Causes result source sink store most
+      → (number ≡ 7 → store.tells → (length store.disk.gives ≡ 0 → ⊥) × GivesAsBefore store) → (number ≡ 11 → GivesAsBefore store ⊎ ((reads : List Read) × IsGiven source reads)) → Causes result source sink store most
   causes-of number is_one e four five six seven eleven = record {
     one_of = subst IsStatus (sym e) is_one;
     source_failed = λ is. four (sym e ∙ is);
@@ -160,4 +153,4 @@ module _ (most result : ℕ) (source sink : Stream) (store : Store) where
   cause own.DiskFault e d = causes-of 6 tt e (λ x. absurd (omega (arith, x))) (λ x. absurd (omega (arith, x))) (λ x. d.0) (λ x. absurd (omega (arith, x))) (λ x. absurd (omega (arith, x)))
   cause own.BadDisk e d = causes-of 7 tt e (λ x. absurd (omega (arith, x))) (λ x. absurd (omega (arith, x))) (λ x. absurd (omega (arith, x))) (λ x tells. ((d.3 tells).0, (d.3 tells).2)) (λ x. absurd (omega (arith, x)))
   cause own.Limit e (inl over) = causes-of 11 tt e (λ x. absurd (omega (arith, x))) (λ x. absurd (omega (arith, x))) (λ x. absurd (omega (arith, x))) (λ x. absurd (omega (arith, x))) (λ x. inl (over.3).gives)
-  cause own.Limit e (inr r) = causes-of 11 tt e (λ x. absurd (omega (arith, x))) (λ x. absurd (omega (arith, x))) (λ x. absurd (omega (arith, x))) (λ x. absurd (omega (arith, x))) (λ x. inr (r.reads, gave-of r.reads r.given))
+  cause own.Limit e (inr r) = causes-of 11 tt e (λ x. absurd (omega (arith, x))) (λ x. absurd (omega (arith, x))) (λ x. absurd (omega (arith, x))) (λ x. absurd (omega (arith, x))) (λ x. inr (r.reads, r.given))

@@ -1,6 +1,7 @@
 use Rattle.std.proofs.Common.{refl, inl, inr}
 use Rattle.ec_echo.specs.declared.command.Command.TheVariants.{Drill, Check, Make, Soak, Serve, Mount}
 use Rattle.ec_echo.specs.declared.status.Status.TheVariants as status
+use Rattle.ec_echo.specs.OfNamed.Seen.{stream}
 use Rattle.ec_drill.proofs.OfPromise.Completes.{drills-complete}
 use Rattle.ec_drill.proofs.OfPromise.Lawful.{drills-lawful}
 use Rattle.ec_drill.proofs.OfPromise.Rooms.{drills-told}
@@ -36,7 +37,7 @@ returns-in-Make-clause-usage g c = answers-usage _ _ _ _ _ (returns-in-Make-clau
 
 pub returns-in-Soak-clause-echoes : goal.returns-in-Soak-clause-echoes
 returns-in-Soak-clause-echoes g c =
-    (c.soak.result, c.code-in-Soak.ensures, inr (Soak c.in-Soak.number, rw c.in-Soak.is at c.in-Some.ensures, ((soaked_over _ _ _ (g.S.Source.left c.args.source.now) (g.S.Source.left c.args.source.now) (g.S.Source.faults c.args.source.now) (g.S.Source.faults c.args.source.now) c.soak.ensures.soaked, record { left = refl; reads = refl }), refl)))
+    (c.soak.result, c.code-in-Soak.ensures, inr (Soak c.in-Soak.number, rw c.in-Soak.is at c.in-Some.ensures, ((soaked_over _ _ _ (stream g.S.Source.left g.S.Source.faults c.args.source.now c.args.source.now) c.soak.ensures.soaked, record { left = refl; reads = refl }), refl)))
 
 pub returns-in-Soak-clause-usage : goal.returns-in-Soak-clause-usage
 returns-in-Soak-clause-usage g c = answers-usage _ _ _ _ _ (returns-in-Soak-clause-echoes g c)

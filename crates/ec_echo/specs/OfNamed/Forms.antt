@@ -8,30 +8,16 @@ use Rattle.ec_mount.specs.declared.status.Status as mounted
 use Rattle.ec_echo.specs.Check.{Judged}
 use Rattle.ec_echo.specs.Greeting.{Greets}
 use Rattle.ec_echo.specs.Serving.{Served}
-use Rattle.ec_echo.specs.Echo.{Made, IsSourceUntouched, IsUntouched, Links, serving, mounting, streams}
+use Rattle.ec_echo.specs.Echo.{Made, IsSourceUntouched, IsUntouched, Links, serving, mounting}
 use Rattle.ec_echo.specs.Statuses.{code, of_drill, of_mount}
 use Rattle.ec_echo.specs.Words.{IsNumbered, IsOfVolume, IsAddressed, IsOfClerk, Spells}
 use Rattle.ec_echo.specs.declared.command.Command.{Command}
 use Rattle.ec_echo.specs.declared.command.Command.TheVariants.{Serve, Mount}
 use Rattle.ec_echo.specs.declared.status.Status.{Status}
-use Rattle.ec_echo.specs.OfNamed.Seen.{Stream, Store}
+use Rattle.ec_drill.specs.Seen.{Stream, Store}
 
 abbrev pub outside : Stream → Stream → Store → Outside
-outside source sink store = record {
-  left = source.bytes;
-  left_after = source.bytes_after;
-  reads = source.faults;
-  reads_after = source.faults_after;
-  held = sink.bytes;
-  held_after = sink.bytes_after;
-  writes = sink.faults;
-  writes_after = sink.faults_after;
-  tells = store.tells;
-  disk = store.disk;
-  disk_after = store.disk_after;
-  counts = store.counts;
-  counts_after = store.counts_after;
-}
+outside source sink store = record { source = source; sink = sink; store = store }
 
 -- a net and who starts threads
 abbrev pub links : {A B : Type 0} → (A → ℕ) → (A → ℕ) → (A → List Ended) → (B → ℕ) → A → A → B → B → Links
@@ -71,15 +57,15 @@ DoesDrill result w most = (end : drilled.Status) × (result ≡ code (of_drill e
 
 -- a transcript is judged, and the disk isn't touched
 abbrev pub DoesCheck : ℕ → Outside → ℕ → Type 0
-DoesCheck result w most = (st : Status) × (result ≡ code st) × Judged most st (streams w) × IsDiskUntouched w
+DoesCheck result w most = (st : Status) × (result ≡ code st) × Judged most st w.source w.sink × IsDiskUntouched w
 
 -- the script of this number is written
 abbrev pub DoesMake : ℕ → Outside → ℕ → Type 0
-DoesMake result w n = (st : Status) × (result ≡ code st) × Made n st w.held w.held_after w.writes w.writes_after × IsSourceUntouched w × IsDiskUntouched w
+DoesMake result w n = (st : Status) × (result ≡ code st) × Made n st w.sink.bytes w.sink.bytes_after w.sink.faults w.sink.faults_after × IsSourceUntouched w × IsDiskUntouched w
 
 -- so many links are served
 abbrev pub DoesServe : ℕ → Outside → Links → ℕ → Type 0
-DoesServe result w n count = (st : Status) × (result ≡ code st) × Served count st w.held w.held_after w.writes w.writes_after (serving w n) × IsSourceUntouched w
+DoesServe result w n count = (st : Status) × (result ≡ code st) × Served count st w.sink.bytes w.sink.bytes_after w.sink.faults w.sink.faults_after (serving w n) × IsSourceUntouched w
 
 -- the script of lanes is run by this clerk, which greets with the boot that was given; a thread that couldn't be started has its status
 abbrev pub DoesMount : ℕ → ℕ → Outside → Links → ℕ → Type 0

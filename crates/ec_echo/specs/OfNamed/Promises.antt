@@ -5,12 +5,12 @@ use Rattle.ec_history.specs.History.{Base, Throughout, outcome, kept, due}
 use Rattle.ec_history.specs.History as history
 use Rattle.ec_history.specs.Legal.{IsLegal, IsNext, IsReported, IsFull, IsReply, IsLawful}
 use Rattle.ec_history.specs.Lines.{AreCovered}
-use Rattle.ec_history.specs.Placing.{ArePlaceable, place}
+use Rattle.ec_history.specs.Placing.{ArePlaceable, EachLine, place}
 use Rattle.ec_history.specs.declared.entry.Entry.{Entry}
 use Rattle.ec_history.specs.declared.entry.Entry.TheVariants as entry
 use Rattle.ec_history.specs.declared.shown.Shown.{Shown}
-use Rattle.ec_drill.specs.OfPromise.OfRooms.Rooms.{AreWithinRoom}
-use Rattle.ec_echo.specs.OfNamed.Seen.{Stream, Store}
+use Rattle.ec_drill.specs.OfPromise.OfRooms.Rooms.{IsWithinRoom}
+use Rattle.ec_drill.specs.Seen.{Stream, Store}
 use Rattle.ec_echo.specs.OfNamed.Told.{OfLines}
 
 -- the lines written stand in one legal history of one uncached volume
@@ -55,4 +55,4 @@ Fsync = OfLines (λ base limit lines. AreCovered base lines)
 
 -- a refusal for want of room tells counts that are together within the number of objects
 abbrev pub Room : ℕ → Stream → Store → ℕ → Type 0
-Room = OfLines (λ base limit lines. AreWithinRoom limit lines)
+Room = OfLines (λ base limit lines. EachLine (IsWithinRoom limit) lines)

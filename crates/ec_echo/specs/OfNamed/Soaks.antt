@@ -12,7 +12,7 @@ use Rattle.ec_echo.specs.Statuses.{code, of_drill}
 use Rattle.ec_echo.specs.declared.status.Status.{Status}
 use Rattle.ec_echo.specs.OfNamed.Forms.{outside}
 use Rattle.ec_echo.specs.OfNamed.Runs.{Complete, Spent, Together}
-use Rattle.ec_echo.specs.OfNamed.Seen.{Stream, Store}
+use Rattle.ec_drill.specs.Seen.{Stream, Store}
 
 -- a source in memory that had the script of this number
 abbrev pub made : ℕ → Option (List ℕ) → Stream
@@ -28,7 +28,7 @@ pub record SoaksOnce (number : ℕ) (result : Status) (sink : Stream) (store : S
   pub transcript : List ℕ
   pub end : drilled.Status
   pub drilled_so : Drilled most_objects end (outside (made number left_after) (transcribed transcript) store)
-  pub plain : GivesPlainScript most_objects (outside (made number left_after) (transcribed transcript) store)
+  pub plain : GivesPlainScript most_objects (Some (script_of number made_lines))
   pub complete : Complete (code (of_drill end)) (made number left_after) (transcribed transcript) store most_objects
   pub together : Together (code (of_drill end)) (made number left_after) (transcribed transcript) store most_objects
   pub spent : Spent (code (of_drill end)) (made number left_after) (transcribed transcript) store most_objects

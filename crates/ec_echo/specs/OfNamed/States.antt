@@ -18,7 +18,7 @@ PartInOrder most w last r = IsToldAll w r.reads → ∥ AreInOrder r.reads r.fat
 
 -- each image that a crash may leave stands for the state at a moment by which all that was written had been shown, with the volume that durable lines name by then
 abbrev pub PartLeaves : (most : ℕ) (w : Outside) (last : List ℕ) → RanInPart most w last → Type 0
-PartLeaves most w last r = w.tells → ∥ LeavesStored w.disk_after r.reads r.fates r.state (open_world r.state) r.shown ∥₁
+PartLeaves most w last r = w.store.tells → ∥ LeavesStored w.store.disk_after r.reads r.fates r.state (open_world r.state) r.shown ∥₁
 
 -- P holds of a run that was cut off, if it was
 abbrev pub OnCut : (most : ℕ) (w : Outside) → ((last : List ℕ) → RanInPart most w last → Type 0) → IsCut most w → Type 0

@@ -11,7 +11,8 @@ use Rattle.ec_words.specs.OfText.Lines.{shown_text, text_of}
 use Rattle.ec_lawful.specs.Headline.{IsGreatest, placed_on}
 use Rattle.ec_drill.specs.Cuts.{IsCutFront}
 use Rattle.ec_drill.specs.Fates.{IsKnown}
-use Rattle.ec_echo.specs.OfNamed.Seen.{Stream, Store, IsNew}
+use Rattle.ec_drill.specs.Seen.{Stream, Store}
+use Rattle.ec_echo.specs.OfNamed.Seen.{IsNew}
 
 -- the line says why a drill ended early
 abbrev pub EndsEarly : Shown → Type 0
@@ -21,17 +22,14 @@ EndsEarly (Limit name n) = ⊤
 EndsEarly (Spent n) = ⊤
 EndsEarly _ = ⊥
 
--- nothing, or a front of a line that wasn't written whole
-abbrev pub IsPart : List ℕ → Type 0
-IsPart part = (part ≡ []) ⊎ ((s : Shown) × IsCutFront (shown_text s) part)
-
 -- These lines were written, then at most one that says why the drill ended early, and then, with status 5 or 9 alone, perhaps a part of one.
 pub record Wrote (result : ℕ) (sink : Stream) (told : List Shown) : Type 0 where
   pub why : List Shown
   pub at_most_one : length why ≤ 1
   pub says : EachLine EndsEarly why
+  -- nothing, or a front of a line that wasn't written whole
   pub part : List ℕ
-  pub in_part : IsPart part
+  pub in_part : (part ≡ []) ⊎ ((s : Shown) × IsCutFront (shown_text s) part)
   pub whole : (result ≡ 5 → ⊥) → (result ≡ 9 → ⊥) → part ≡ []
   pub bytes : Appends sink.bytes sink.bytes_after (text_of (told ++ why) ++ part)
 

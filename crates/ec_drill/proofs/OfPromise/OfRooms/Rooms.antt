@@ -16,7 +16,7 @@ use Rattle.ec_lawful.specs.Headline as headline
 use Rattle.ec_lawful.specs.Steps.{HoldsIn}
 use Rattle.ec_lawful.proofs.Drills.{drills-on}
 use Rattle.ec_lawful.proofs.Worlds.{no-calls, no-lines}
-use Rattle.ec_drill.specs.OfPromise.OfRooms.Rooms.{AreWithinRoom}
+use Rattle.ec_drill.specs.OfPromise.OfRooms.DrillRooms.{AreWithinRoom}
 use Rattle.ec_drill.specs.OfPromise.OfRooms.DrillRooms.{DrillsTellRoom}
 use Rattle.ec_drill.proofs.OfPromise.OfRooms.Roomy.{K, opened-room, room-kept}
 

@@ -18,8 +18,8 @@ use Rattle.ec_protocol.specs.declared.world.Event.TheVariants as event
 use Rattle.ec_protocol.specs.declared.world.World.{World}
 use Rattle.ec_protocol.specs.declared.world.WorldFault.{WorldFault}
 use Rattle.ec_protocol.specs.declared.world.WorldFault.TheVariants as fault
-use Rattle.ec_drill.specs.OfPromise.OfSpent.Spent.{AllSpendFew, MaySpend}
-use Rattle.ec_drill.specs.OfPromise.OfSpent.SpentDrills.{DrillsSpendFew, most_lines}
+use Rattle.ec_drill.specs.OfPromise.OfSpent.Spent.{MaySpend}
+use Rattle.ec_drill.specs.OfPromise.OfSpent.SpentDrills.{AllSpendFew, DrillsSpendFew, most_lines}
 use Rattle.ec_drill.proofs.OfPromise.OfSpent.Few.{IsLow, OnSpent, line_steps, most_steps}
 use Rattle.ec_drill.proofs.OfPromise.OfSpent.Servers as servers
 use Rattle.ec_drill.proofs.OfPromise.OfSpent.Worlds.{IsGoing, IsLowWorld, IsTold, OnFault, delivers, goes-later, happens, later, lines-more, restarts-tell}

@@ -33,8 +33,8 @@ use Rattle.ec_protocol.specs.declared.world.World.{World}
 use Rattle.ec_protocol.specs.declared.world.WorldFault.{WorldFault}
 use Rattle.ec_protocol.specs.declared.world.WorldFault.TheVariants as fault
 use Rattle.ec_coherence.proofs.ForServer.Tables.{at-put, at-without}
-use Rattle.ec_drill.specs.OfPromise.OfSpent.Spent.{AllSpendFew, MaySpend, SpendsFew}
-use Rattle.ec_drill.specs.OfPromise.OfSpent.SpentDrills.{most_lines}
+use Rattle.ec_drill.specs.OfPromise.OfSpent.Spent.{MaySpend, SpendsFew}
+use Rattle.ec_drill.specs.OfPromise.OfSpent.SpentDrills.{AllSpendFew, most_lines}
 use Rattle.ec_drill.proofs.OfPromise.OfSpent.Few.{IsFew, IsGoingCounts, IsLow, OnSpent, counts, ends-few, more-few, most_steps}
 use Rattle.ec_drill.proofs.OfPromise.OfSpent.Messages as clerks
 use Rattle.ec_drill.proofs.OfPromise.OfSpent.Servers as servers

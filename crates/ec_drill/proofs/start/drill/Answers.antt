@@ -2,7 +2,7 @@ use Rattle.ec_drill.proofs.Given.{few_read, over_bytes, over_lines}
 use Rattle.ec_drill.proofs.start.drill.Goals as goal
 
 pub drill_lines-requires-clause-few : goal.drill_lines-requires-clause-few
-drill_lines-requires-clause-few g c = few_read _ _ _ c.in-Ok.ensures.given
+drill_lines-requires-clause-few g c = few_read _ _ c.in-Ok.ensures.given
 
 pub returns-in-Err-Bytes-clause-drilled : goal.returns-in-Err-Bytes-clause-drilled
 returns-in-Err-Bytes-clause-drilled g c =

@@ -1,8 +1,7 @@
--- The counters that a drill can spend, told by lines.
-use Rattle.std.specs.Prelude.{List, ⊤}
+-- The counters that a drill can spend, told by a line.
+use Rattle.std.specs.Prelude.{⊤}
 use Rattle.ec_base.specs.declared.counter.Counter.{Counter}
 use Rattle.ec_base.specs.declared.counter.Counter.TheVariants.{Boot, Session, Epoch, Id}
-use Rattle.ec_history.specs.Placing.{EachLine}
 use Rattle.ec_history.specs.declared.shown.Shown.{Shown}
 use Rattle.ec_history.specs.declared.shown.Shown.TheVariants.{Spent}
 
@@ -18,6 +17,3 @@ MaySpend _ = ⊥
 abbrev pub SpendsFew : Shown → Type 0
 SpendsFew (Spent n) = MaySpend n
 SpendsFew _ = ⊤
-
-abbrev pub AllSpendFew : List Shown → Type 0
-AllSpendFew shown = EachLine SpendsFew shown

@@ -3,8 +3,14 @@ use Rattle.std.specs.Prelude.{◌≤◌, ℕ, List, length}
 use Rattle.ec_base.specs.Limits.{clerk_count}
 use Rattle.ec_base.specs.Tables.{once}
 use Rattle.ec_durable.specs.declared.state.Durable.{Durable}
+use Rattle.ec_history.specs.Placing.{EachLine}
+use Rattle.ec_history.specs.declared.shown.Shown.{Shown}
 use Rattle.ec_protocol.specs.Drill.{Fates, Read, drill, named_in}
-use Rattle.ec_drill.specs.OfPromise.OfSpent.Spent.{AllSpendFew}
+use Rattle.ec_drill.specs.OfPromise.OfSpent.Spent.{SpendsFew}
+
+-- each line does
+abbrev pub AllSpendFew : List Shown → Type 0
+AllSpendFew shown = EachLine SpendsFew shown
 
 -- so many lines a script may have
 abbrev pub most_lines : ℕ

@@ -11,19 +11,9 @@ returns-clause-soaked g c =
     let later = g.K.Sink.faults c.tell.new.sink in
     soaked_by c.args.number c.drill-end.result c.tell.result
     (record {
-      left = None;
-      left_after = None;
-      reads = 0;
-      reads_after = 0;
-      held = held;
-      held_after = now;
-      writes = writes;
-      writes_after = later;
-      tells = g.D.Disk.tells;
-      disk = g.D.Disk.view c.args.disk.now;
-      disk_after = g.D.Disk.view c.drill-end.new.disk;
-      counts = g.D.Disk.counts c.args.disk.now;
-      counts_after = g.D.Disk.counts c.drill-end.new.disk;
+      source = record { bytes = None; bytes_after = None; faults = 0; faults_after = 0 };
+      sink = record { bytes = held; bytes_after = now; faults = writes; faults_after = later };
+      store = record { tells = g.D.Disk.tells; disk = g.D.Disk.view c.args.disk.now; disk_after = g.D.Disk.view c.drill-end.new.disk; counts = g.D.Disk.counts c.args.disk.now; counts_after = g.D.Disk.counts c.drill-end.new.disk };
     })
     c.deref.result.now c.new-transcript.result.bytes.items (Some c.drill-end.new.source.ahead.now) c.drill-end.new.sink.bytes.items (c.deref.ensures.value ∙ c.in-Ok.ensures) c.new-transcript.ensures c.drill-end.ensures.drilled
     (subst (λ (t : List ℕ). Told c.args.number c.drill-end.result t c.tell.result held now writes later) c.bytes.ensures c.tell.ensures.told)
