@@ -12,7 +12,7 @@ use Rattle.ec_clerknode.specs.declared.fault.NodeFault.{NodeFault}
 use Rattle.ec_clerknode.specs.declared.fault.NodeFault.TheVariants as fault
 use Rattle.ec_clerknode.specs.declared.state.Node.{Node}
 use Rattle.ec_clerknode.specs.declared.step.Step.{Step}
-use Rattle.ec_mounts.specs.Mounts.{AllSynced, Makes, SyncedAll, SyncFails}
+use Rattle.ec_mounts.specs.Mounts.{AllMade, AllSynced, Makes, SyncedAll, SyncFails}
 use Rattle.ec_mounts.specs.Parts.{Answered, Gathers, MetAll, MetFirst}
 use Rattle.ec_mounts.proofs.Seats.{some_is}
 
@@ -99,6 +99,12 @@ module _ {L S : Type 0} (pass_of : S → Pass (Node L) Step) (met_of : S → Opt
       (λ (w : ((reply : Reply) × Makes Sync (pass_of old) (pass_of new) (Ok reply)) × MetFirst (map met_of news) f). inr (w.0, sync_fails olds news f did.1 w.1))
       (one_failed Sync (pass_of old) (pass_of new) (met_of new) (map met_of news) f did.0 first)
 
+  all_made : (olds news : List S) → AllDid olds news → AllMade (map pass_of olds) (map pass_of news)
+  all_made [] [] did = tt
+  all_made [] (new ∷ news) did = absurd did
+  all_made (old ∷ olds) [] did = absurd did
+  all_made (old ∷ olds) (new ∷ news) did = ((did.0.0, did.0.2), all_made olds news did.1)
+
   pub synced : (olds news : List S) (result : Result (Vec Answer Global) NodeFault) → AllDid olds news → Gathers (map met_of news) result → SyncedAll (map pass_of olds) (map pass_of news) result
   synced olds news (Ok answers) did all = all_synced olds news answers.items did all
-  synced olds news (Err f) did all = ⊎_elim (λ (first : MetFirst (map met_of news) f). inl (sync_fails olds news f did first)) (λ (e : f ≡ fault.NoMemory). inr e) all
+  synced olds news (Err f) did all = ⊎_elim (λ (first : MetFirst (map met_of news) f). inl (sync_fails olds news f did first)) (λ (e : f ≡ fault.NoMemory). inr (e, all_made olds news did)) all

@@ -97,10 +97,16 @@ module _ {L : Type 0} where
   SyncFails (old ∷ olds) (new ∷ news) f = Makes Sync old new (Err f) ⊎ (((reply : Reply) × Makes Sync old new (Ok reply)) × SyncFails olds news f)
   SyncFails _ _ f = ⊥
 
-  -- The answers are in order. Where memory was wanting, nothing more is said.
+  -- each volume made a sync, whatever it met
+  abbrev pub AllMade : List (Pass (Node L) Step) → List (Pass (Node L) Step) → Type 0
+  AllMade [] [] = Unit {0}
+  AllMade (old ∷ olds) (new ∷ news) = ((met : Result Reply NodeFault) × Makes Sync old new met) × AllMade olds news
+  AllMade _ _ = ⊥
+
+  -- The answers are in order. Where memory was wanting for them, all were made.
   abbrev pub SyncedAll : List (Pass (Node L) Step) → List (Pass (Node L) Step) → Result (Vec Answer Global) NodeFault → Type 0
   SyncedAll olds news (Ok answers) = AllSynced olds news answers.items
-  SyncedAll olds news (Err f) = SyncFails olds news f ⊎ (f ≡ fault.NoMemory)
+  SyncedAll olds news (Err f) = SyncFails olds news f ⊎ ((f ≡ fault.NoMemory) × AllMade olds news)
 
   -- what each volume told lost, with its place from this one on
   abbrev pub told_from : ℕ → List (Pass (Node L) Step) → List (ℕ × List ℕ)

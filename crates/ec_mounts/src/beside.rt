@@ -23,6 +23,7 @@ pub struct Beside {
 }
 
 impl Beside {
+    /// So many calls are to be made.
     pub fn new(calls: u64) -> Beside {
         Beside {
             calls,
@@ -31,11 +32,13 @@ impl Beside {
         }
     }
 
+    /// A call was begun.
     pub fn begin(&self) {
         self.begun.fetch_add(1, Ordering::SeqCst);
         self.begun.wake_all();
     }
 
+    /// A call has ended.
     pub fn end(&self) {
         self.ended.fetch_add(1, Ordering::SeqCst);
     }

@@ -19,7 +19,7 @@ use std::thread::Threads;
 use std::time::Clock;
 
 /// Makes the call at the volume of its paths, and waits for its answer. Where it has none, nothing is begun. While it waits,
-/// the other volumes take turns.
+/// the other volumes take turns. Faults are those of a call at that volume's clerk, and want of memory.
 pub fn call_over<L: Link + Send, R: Threads + Wait + Clock + Sync>(
     rt: &R,
     alloc: Global,

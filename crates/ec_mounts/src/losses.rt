@@ -1,5 +1,6 @@
 // What the volumes told lost.
-ghost use Rattle.std.specs.Prelude.{◌≡◌, ◌<◌, ◌≤◌, ◌++◌, map, length, slice_set, IfOk, OnOk};
+ghost use Rattle.std.specs.Prelude.{◌≡◌, ◌<◌, ◌≤◌, ◌++◌, map, length, slice_set, IfOk, IfErr, OnOk};
+ghost use Rattle.ec_clerknode.specs.declared.fault.NodeFault.TheVariants as fault;
 ghost use Rattle.ec_mounts.specs.Mounts.{AllRest, AreSeated, told_from};
 ghost use Rattle.ec_mounts.specs.Parts.{TookAt, told_at};
 
@@ -36,6 +37,7 @@ fn losses_at<L: Link, R: Wait>(
     ensures seated { AreSeated (map (λ c. c.lock) clerks.now) (map (λ p. p.pass) parts.new) }
     ensures took { TookAt place (map (λ p. p.pass) parts.old) (map (λ p. p.pass) parts.new) }
     ensures ok { IfOk result (λ lists. lists.items ≡ told_at place (map (λ p. p.pass) parts.new)) }
+    ensures err { IfErr result (λ f. f ≡ fault.NoMemory) }
 {
     clerk_at(clerks, place).losses(rt, &mut parts[place].pass)
 }
@@ -47,7 +49,8 @@ fn byte_of(place: usize) -> u8
     place as u8
 }
 
-/// The lists that were told lost, volume by volume, each with the volume's place from 0.
+/// The lists that were told lost, volume by volume, each with the volume's place from 0. The fault is want of memory: for them,
+/// or an earlier one of a clerk.
 pub fn losses_of<L: Link, R: Wait>(
     rt: &R,
     alloc: Global,
@@ -59,6 +62,7 @@ pub fn losses_of<L: Link, R: Wait>(
     ensures seated { AreSeated (map (λ c. c.lock) clerks.now) (map (λ p. p.pass) parts.new) }
     ensures rest { AllRest (map (λ p. p.pass) parts.old) (map (λ p. p.pass) parts.new) }
     ensures ok { IfOk result (λ told. told.items ≡ told_from 0 (map (λ p. p.pass) parts.new)) }
+    ensures err { IfErr result (λ f. f ≡ fault.NoMemory) }
 {
     let mut told = Vec::new(alloc);
     for place in 0..parts.len() {

@@ -1,7 +1,8 @@
 // The volumes of a mount table.
-ghost use Rattle.std.specs.Prelude.{◌≡◌, ◌+◌, ◌≤◌, [], map, length, IfOk, IfSome, IfNone};
+ghost use Rattle.std.specs.Prelude.{◌≡◌, ◌+◌, ◌≤◌, [], map, length, IfOk, IfErr, IfSome, IfNone};
 ghost use Rattle.std.specs.List.{All};
 ghost use Rattle.ec_lock.specs.PassViews.{IsPassOf};
+ghost use Rattle.ec_clerknode.specs.declared.fault.NodeFault.TheVariants as fault;
 ghost use Rattle.ec_mount_words.specs.OfRoute.Calls.{paths_of};
 ghost use Rattle.ec_mount_words.specs.OfRoute.Routes.{AreOrdered};
 ghost use Rattle.ec_mounts.specs.Mounts.{AllRest, AreSeated, Ends, SyncedAll, Went, told_from};
@@ -84,7 +85,8 @@ impl<L: Link + Send + Drop> Mounts<L> {
     }
 
     /// Makes the call at the volume of its paths, and waits for its answer. Where it has none, nothing is begun. The call
-    /// must have from 1 to 8 paths, so that it's no `Sync`. While it waits, the other volumes take turns.
+    /// must have from 1 to 8 paths, so that it's no `Sync`. While it waits, the other volumes take turns. Faults are those of a
+    /// call at that volume's clerk, and want of memory.
     pub fn call<R: Threads + Wait + Clock + Sync>(
         &mut self,
         rt: &R,
@@ -119,13 +121,15 @@ impl<L: Link + Send + Drop> Mounts<L> {
         sync_over(rt, self.alloc, &self.clerks, &mut self.parts)
     }
 
-    /// The lists that were told lost, volume by volume, each with the volume's place from 0.
+    /// The lists that were told lost, volume by volume, each with the volume's place from 0. The fault is want of memory: for
+    /// them, or an earlier one of a clerk.
     pub fn losses<R: Wait>(&mut self, rt: &R) -> Result<Vec<(u8, List<OpNo>)>, NodeFault>
         requires seated { AreSeated (map (λ c. c.lock) self.old.clerks.items) (map (λ p. p.pass) self.old.parts.items) }
         ensures seated { AreSeated (map (λ c. c.lock) self.new.clerks.items) (map (λ p. p.pass) self.new.parts.items) }
         ensures same { (self.new.table.items ≡ self.old.table.items) × (self.new.clerks.items ≡ self.old.clerks.items) }
         ensures rest { AllRest (map (λ p. p.pass) self.old.parts.items) (map (λ p. p.pass) self.new.parts.items) }
         ensures ok { IfOk result (λ told. told.items ≡ told_from 0 (map (λ p. p.pass) self.new.parts.items)) }
+        ensures err { IfErr result (λ f. f ≡ fault.NoMemory) }
     {
         losses_of(rt, self.alloc, &self.clerks, &mut self.parts)
     }
