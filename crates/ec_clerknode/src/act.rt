@@ -17,6 +17,7 @@ pub enum Greeted {
 }
 
 impl Greeted {
+    /// What this message answers.
     pub fn by(msg: &Msg) -> Greeted {
         match msg {
             Msg::Opened(..) => Greeted::Opened,

@@ -30,7 +30,7 @@ fn refusal(fault: ClerkFault) -> Refused
     }
 }
 
-/// Begins a call.
+/// Begins a call. It's refused where a counter would pass its limit, with the clerk as before, and for want of memory.
 #[tactic(auto, unfolding(crate::specs::Folded::begun))]
 pub fn begin(clerk: &mut Clerk, call: Call) -> Result<(u64, Vec<Out>), Refused>
     ensures number { IfOk result (λ r. r.0 ≡ clerk.old.calls + 1) }
@@ -43,7 +43,7 @@ pub fn begin(clerk: &mut Clerk, call: Call) -> Result<(u64, Vec<Out>), Refused>
     }
 }
 
-/// Takes a message.
+/// Takes a message. It's refused as a call is.
 #[tactic(auto, unfolding(crate::specs::Folded::taken))]
 pub fn take(clerk: &mut Clerk, msg: Msg) -> Result<Vec<Out>, Refused>
     requires { is_sound msg ≡ true }
@@ -56,7 +56,7 @@ pub fn take(clerk: &mut Clerk, msg: Msg) -> Result<Vec<Out>, Refused>
     }
 }
 
-/// Asks for a batch.
+/// Asks for a batch. It's refused as a call is; an operation that there isn't counts as want of memory.
 #[tactic(auto, unfolding(crate::specs::Folded::picked, crate::specs::FoldedAnswers::answer_to))]
 pub fn flush(clerk: &mut Clerk, asked: Asked) -> Result<(Flushed, Vec<Out>), Refused>
     ensures answer { IfOk result (λ r. r.0 ≡ answer_to asked clerk.old) }
@@ -69,7 +69,7 @@ pub fn flush(clerk: &mut Clerk, asked: Asked) -> Result<(Flushed, Vec<Out>), Ref
     }
 }
 
-/// Says goodbye. Without a session there is nobody to say it to.
+/// Says goodbye. Without a session there is nobody to say it to. Each fault counts as want of memory.
 #[tactic(auto, unfolding(crate::specs::Folded::parted))]
 pub fn bye(clerk: &mut Clerk) -> Result<Option<Vec<Out>>, NoMemory>
     ensures ok { IfOk result (λ made. IfSome made (λ outs. ComesOut (parted clerk.old) clerk.new outs.items)) }
@@ -86,7 +86,7 @@ pub fn bye(clerk: &mut Clerk) -> Result<Option<Vec<Out>>, NoMemory>
     Ok(Some(outs))
 }
 
-/// Greets by a new link.
+/// Greets by a new link. The error is want of memory.
 #[tactic(auto, unfolding(crate::specs::Folded::linked))]
 pub fn greet(clerk: &Clerk) -> Result<Vec<Out>, NoMemory>
     ensures { IfOk result (λ outs. ComesOut (linked clerk.now) clerk.now outs.items) }
@@ -94,7 +94,7 @@ pub fn greet(clerk: &Clerk) -> Result<Vec<Out>, NoMemory>
     clerk.greet()
 }
 
-/// Sends again what is held and what is outstanding.
+/// Sends again what is held and what is outstanding. Each fault counts as want of memory.
 #[tactic(auto, unfolding(crate::specs::Folded::resent))]
 pub fn resend(clerk: &mut Clerk) -> Result<Vec<Out>, NoMemory>
     ensures { IfOk result (λ outs. ComesOut (resent clerk.old) clerk.new outs.items) }

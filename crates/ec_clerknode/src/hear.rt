@@ -14,7 +14,8 @@ use ec_wire::{WireFault, decode};
 use std::alloc::Global;
 use std::snapshot::Snapshot;
 
-/// What is done with what the link gave: with nothing, nothing.
+/// What is done with what the link gave: with nothing, nothing. A link that failed, a body that is no message and a counter
+/// that is spent are faults of what is done. The error is want of memory, behind which the clerk is followed no more.
 pub fn hear(clerk: &mut Clerk, alloc: Global, got: Got) -> Result<Option<Act>, NoMemory>
     ensures hears { IfOk result (λ made. Hears clerk.old got clerk.new made) }
     ensures marked { IfOk result (λ made. IfSome made (λ act. IfSome act.fault IsMark)) }

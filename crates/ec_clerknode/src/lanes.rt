@@ -86,7 +86,7 @@ fn answers_of(alloc: Global, lanes: Vec<Vec<Reply>>) -> Result<Vec<Vec<Answer>>,
     Ok(all)
 }
 
-/// The same without the operations' numbers.
+/// The same without the operations' numbers. Want of memory for these lists is a fault too.
 pub fn run_lanes<L: Link + Send, G: Gate + Sync, R: Threads + Wait + Clock + Sync>(
     rt: &R,
     clerk: &SharedClerk<L>,

@@ -65,7 +65,8 @@ fn is_down_behind(was_down: bool, end: Sent) -> bool {
 }
 
 impl<L: Link> State<L> {
-    /// Whether a turn may do anything.
+    /// Whether a turn may do anything. It's `OldBoot` where the server knows a greater age, and want of memory where the clerk is
+    /// followed no more or has taken as many steps as are counted.
     pub fn check(&self) -> Result<(), NodeFault>
         ensures ok { IfOk result (λ _. (self.now.broken ≡ false) × (self.now.steps < last_counter) × (self.now.boot ≡ None)) }
         ensures err { IfErr result (λ f. (f ≡ fault.NoMemory) ⊎ ((age : Years) × (f ≡ fault.OldBoot age) × (self.now.boot ≡ Some age))) }
@@ -100,7 +101,7 @@ impl<L: Link> State<L> {
         NodeFault::NoMemory
     }
 
-    // Sends the messages, keeps the answers and adds the step. It says how the sending ended.
+    /// Sends the messages, keeps the answers and adds the step. It says how the sending ended.
     pub fn add_step<R: Wait + Clock>(
         &mut self,
         rt: &R,
@@ -263,7 +264,8 @@ impl<L: Link> State<L> {
     }
 
     /// Reads the link once, and takes the message if there was one. It's true where the link gave something. A link that is
-    /// down is read no more where another one will come.
+    /// down is read no more where another one will come. Faults are those of `check`, `Net` where no other one will come, `Peer` and
+    /// `Long` by what the link gave, `Spent` and want of memory.
     pub fn read<R: Wait + Clock>(
         &mut self,
         rt: &R,
@@ -325,7 +327,8 @@ impl<L: Link> State<L> {
         }
     }
 
-    /// Asks for a batch.
+    /// Asks for a batch. Faults are those of `check`, `Net` where the link fails and no other one will come, `Spent` and want of
+    /// memory.
     pub fn flush<R: Wait + Clock>(
         &mut self,
         rt: &R,
@@ -376,7 +379,7 @@ impl<L: Link> State<L> {
     }
 
     /// Reads the link once, and says goodbye where there is a session then. Whether the link gave something, and whether it
-    /// said goodbye.
+    /// said goodbye. Faults are those of `read`.
     pub fn read_and_bye<R: Wait + Clock>(
         &mut self,
         rt: &R,
@@ -452,7 +455,7 @@ impl<L: Link> State<L> {
         Ok(false)
     }
 
-    /// Begins a call. Its number, the place of its step, and the answer where it is there at once.
+    /// Begins a call. Its number, the place of its step, and the answer where it is there at once. Faults are those of `flush`.
     pub fn start_call<R: Wait + Clock>(
         &mut self,
         rt: &R,
@@ -511,7 +514,7 @@ impl<L: Link> State<L> {
         Ok((heard, answer))
     }
 
-    /// Reads the link once and asks for a batch. Whether the link gave something, and the answer.
+    /// Reads the link once and asks for a batch. Whether the link gave something, and the answer. Faults are those of `read`.
     pub fn read_and_flush<R: Wait + Clock>(
         &mut self,
         rt: &R,
@@ -528,7 +531,7 @@ impl<L: Link> State<L> {
         Ok((heard, flushed))
     }
 
-    /// The lists that were told lost.
+    /// The lists that were told lost. The fault is want of memory: for them, or an earlier one.
     pub fn losses(&self, alloc: Global) -> Result<Vec<List<OpNo>>, NodeFault>
         ensures ok { IfOk result (λ lists. (first : State L) → Since (λ l. L.faults l + L.closes l) L.given L.got first self.now → lists.items ≡ told_by self.now.trace.items) }
         ensures err { IfErr result (λ f. f ≡ fault.NoMemory) }

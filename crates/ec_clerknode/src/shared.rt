@@ -222,7 +222,8 @@ impl<L: Link> SharedClerk<L> {
 
     /// Begins the call and waits for its answer, with its operation's number. What is answered at once waits for nobody.
     /// Where the bell asks for it, the link is read first, so that a clerk that answers from its cache all the time hears
-    /// of recalls.
+    /// of recalls. Faults are `OldBoot` where the server knows a greater age of the clerk, `Net` where the link failed and no
+    /// other one will come, `Peer` and `Long` by what the link gave, `Spent` and `NoMemory`.
     pub fn call_op<R: Wait + Clock>(
         &self,
         rt: &R,
@@ -240,7 +241,7 @@ impl<L: Link> SharedClerk<L> {
         self.make_call(rt, pass, call)
     }
 
-    /// The same without the operation's number.
+    /// The same without the operation's number, with the same faults.
     pub fn call<R: Wait + Clock>(
         &self,
         rt: &R,
@@ -281,7 +282,7 @@ impl<L: Link> SharedClerk<L> {
         result
     }
 
-    /// Asks once for a batch, in a turn that also reads the link.
+    /// Asks once for a batch, in a turn that also reads the link. Faults are those of a call.
     pub fn flush_turn<R: Wait + Clock>(
         &self,
         rt: &R,
@@ -322,7 +323,7 @@ impl<L: Link> SharedClerk<L> {
         result
     }
 
-    /// Says goodbye. It waits until there is a session to end.
+    /// Says goodbye. It waits until there is a session to end. Faults are those of a call.
     pub fn bye<R: Wait + Clock>(&self, rt: &R, pass: &mut Pass<Node<L>>) -> Result<(), NodeFault>
         requires pass { IsPassOf self.now.lock pass.old }
         ensures turned { Turned self.now.lock pass.old pass.new }
@@ -347,7 +348,7 @@ impl<L: Link> SharedClerk<L> {
         unreachable!()
     }
 
-    /// The lists that were told lost, in the order of the sessions' ends.
+    /// The lists that were told lost, in the order of the sessions' ends. The fault is want of memory: for them, or an earlier one.
     pub fn losses<R: Wait>(
         &self,
         rt: &R,
@@ -389,7 +390,8 @@ impl<L: Link> SharedClerk<L> {
 }
 
 impl<L: Link + Drop> SharedClerk<L> {
-    /// A clerk that has taken no step since its start, its link, and the link's bell. The first pass has the number 0.
+    /// A clerk that has taken no step since its start, its link, and the link's bell. The first pass has the number 0. The fault is
+    /// want of memory.
     pub fn new(
         alloc: Global,
         clerk: Clerk,
@@ -405,7 +407,7 @@ impl<L: Link + Drop> SharedClerk<L> {
         SharedClerk::linked_by(alloc, clerk, link, bell, None)
     }
 
-    /// The same, with the number of the pass that may exchange the link, where one may.
+    /// The same, with the number of the pass that may exchange the link, where one may. The fault is want of memory.
     pub fn linked_by(
         alloc: Global,
         clerk: Clerk,

@@ -26,6 +26,7 @@ pub struct Swap<B: Bell + Drop> {
 }
 
 impl<B: Bell + Drop> Swap<B> {
+    /// The bell of the first link. The error is want of memory.
     pub fn new(alloc: Global, bell: B) -> Result<Swap<B>, NoMemory> {
         let bell = Arc::new(alloc, bell)?;
         Ok(Swap {

@@ -15,6 +15,7 @@ pub struct Waiting {
 }
 
 impl Waiting {
+    /// No call waits yet.
     pub fn new() -> Waiting {
         Waiting {
             since: None,

@@ -15,5 +15,10 @@ mod telling;
 mod waiting;
 mod work;
 
-pub use mounting::mount;
+pub use greeting::{Greeted, greet};
+pub use limits::{MOST_BYTES, MOST_LINES};
+pub use mounting::{ended_by, mount, place_in, refuse};
+pub use script::Unread;
+pub use shown::{old_boot_line, peer_line, shown_line};
 pub use status::Status;
+pub use telling::{Who, tell_start, tell_unreached};

@@ -36,6 +36,7 @@ pub struct Beside {
 }
 
 impl Beside {
+    /// Nobody is there yet.
     pub fn new() -> Beside {
         Beside {
             is_there: AtomicU64::new(0),

@@ -70,8 +70,8 @@ pub fn mount<S: Source, K: Sink, N: Net, R: Around + Eprint>(
     tell(alloc, sink, &rows, &answers)
 }
 
-// Ends a mount whose script gives no rows.
-fn refuse<K: Sink>(alloc: Global, sink: &mut K, why: Unread) -> Status
+/// Ends a mount whose script gives no rows.
+pub fn refuse<K: Sink>(alloc: Global, sink: &mut K, why: Unread) -> Status
     ensures later { K.faults sink.old ≤ K.faults sink.new }
     ensures refused { RefusesRows why result (K.held sink.old) (K.held sink.new) (K.faults sink.old) (K.faults sink.new) }
 {
@@ -153,7 +153,8 @@ fn write_last<K: Sink>(sink: &mut K, line: Result<Vec<u8>, NoMemory>, status: St
     ended_by(status, write_line(sink, line))
 }
 
-fn ended_by(status: Status, written: Result<(), WriteFault>) -> Status
+/// How what was to end with this status ends, by how its text was written.
+pub fn ended_by(status: Status, written: Result<(), WriteFault>) -> Status
     ensures { result ≡ ended_by status written }
 {
     match written {
@@ -163,8 +164,8 @@ fn ended_by(status: Status, written: Result<(), WriteFault>) -> Status
     }
 }
 
-// The place that the last line shows.
-fn place_in(fault: WireFault) -> u64
+/// The place that the last line shows.
+pub fn place_in(fault: WireFault) -> u64
     ensures { result ≡ place_in fault }
 {
     match fault {

@@ -45,7 +45,8 @@ impl<T: Drop> From<AllocFailed<T>> for Unread {
     }
 }
 
-/// The rows of the script that the source gives, read to its end.
+/// The rows of the script that the source gives, read to its end. Else what withholds them: a limit, the first line that is none of
+/// a lane, a source that fails, or want of memory.
 pub fn rows_of<S: Source>(alloc: Global, source: &mut S) -> Result<Vec<Row>, Unread>
     ensures given { MatchResult result
         (λ rows. GivesRows (S.left source.old) (S.left source.new) rows.items)
@@ -111,7 +112,7 @@ fn calls_of_each(alloc: Global, rows: &[Row], lanes: &[u8]) -> Result<Vec<List<C
     Ok(made)
 }
 
-/// The calls of each lane, from 1 to 8.
+/// The calls of each lane, from 1 to 8. The error is want of memory.
 pub fn lanes_of(alloc: Global, rows: &[Row]) -> Result<Vec<List<Call>>, NoMemory>
     ensures { IfOk result (λ lanes. lanes.items ≡ lanes_of rows.now) }
 {

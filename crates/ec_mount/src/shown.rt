@@ -63,7 +63,7 @@ fn told_line(alloc: Global, ops: &List<OpNo>) -> Result<Vec<u8>, NoMemory>
     Ok(text)
 }
 
-/// The line of the last sync.
+/// The line of the last sync. The error is want of memory.
 pub fn end_line(alloc: Global, reply: &Reply) -> Result<Vec<u8>, NoMemory>
     ensures { IfOk result (λ text. text.items ≡ end_text reply.now) }
 {
@@ -82,21 +82,21 @@ fn word_line(alloc: Global, word: &[u8], number: u64) -> Result<Vec<u8>, NoMemor
     Ok(text)
 }
 
-/// The last line where the server knows a greater age.
+/// The last line where the server knows a greater age. The error is want of memory.
 pub fn old_boot_line(alloc: Global, age: Age) -> Result<Vec<u8>, NoMemory>
     ensures { IfOk result (λ text. text.items ≡ old_boot_text age) }
 {
     word_line(alloc, b"oldboot ", age.boot)
 }
 
-/// The last line where the server sent what is no message.
+/// The last line where the server sent what is no message. The error is want of memory.
 pub fn peer_line(alloc: Global, place: u64) -> Result<Vec<u8>, NoMemory>
     ensures { IfOk result (λ text. text.items ≡ peer_text place) }
 {
     word_line(alloc, b"peer ", place)
 }
 
-/// The last line where a line of a transcript says why.
+/// The last line where a line of a transcript says why. The error is want of memory.
 pub fn shown_line(alloc: Global, line: Shown) -> Result<Vec<u8>, NoMemory>
     ensures { IfOk result (λ text. text.items ≡ shown_text line) }
 {
@@ -169,7 +169,8 @@ fn write_told<K: Sink>(alloc: Global, sink: &mut K, told: &[List<OpNo>]) -> Resu
     Ok(())
 }
 
-/// Writes the answers that came: each row with its own, lane by lane, and what was told lost.
+/// Writes the answers that came: each row with its own, lane by lane, and what was told lost. Where the sink fails or memory is
+/// wanting, a front of that is written.
 pub fn write_came<K: Sink>(
     alloc: Global,
     sink: &mut K,

@@ -17,6 +17,7 @@ impl Who<'_> {
     }
 }
 
+/// It calls the server.
 pub fn tell_call<R: Eprint>(rt: &R, who: &Who<'_>) {
     let _ = eprintln!(rt; "echofs: {} calls {}", who.letter(), who.addr);
 }
@@ -29,10 +30,12 @@ pub fn tell_unreached<R: Eprint>(rt: &R, who: &Who<'_>, reason: Option<io::Error
     };
 }
 
+/// No thread can be started, and it ends.
 pub fn tell_no_thread<R: Eprint>(rt: &R, who: &Who<'_>) {
     let _ = eprintln!(rt; "echofs: {} ended: no thread can be started", who.letter());
 }
 
+/// It's linked, and greets with this boot.
 pub fn tell_start<R: Eprint>(rt: &R, who: &Who<'_>, boot: u64) {
     let letter = who.letter();
     let _ = eprintln!(rt; "echofs: {letter} is linked, and started with boot {boot}");
@@ -47,6 +50,7 @@ pub fn tell_gone<R: Eprint>(rt: &R, who: &Who<'_>) {
     );
 }
 
+/// Another link came.
 pub fn tell_again<R: Eprint>(rt: &R, who: &Who<'_>) {
     let _ = eprintln!(rt; "echofs: {} is linked again", who.letter());
 }

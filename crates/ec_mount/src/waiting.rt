@@ -20,6 +20,7 @@ pub struct Progress<'a> {
 }
 
 impl<'a> Progress<'a> {
+    /// No call was begun yet.
     pub fn new(who: &'a Who<'a>) -> Progress<'a> {
         Progress {
             who,
@@ -33,6 +34,7 @@ impl<'a> Progress<'a> {
         self.is_ended.store(true, Ordering::SeqCst);
     }
 
+    /// Whether all lanes have ended.
     pub fn is_ended(&self) -> bool {
         self.is_ended.load(Ordering::SeqCst)
     }
@@ -54,6 +56,7 @@ pub struct Waiting {
 }
 
 impl Waiting {
+    /// Nobody has looked yet.
     pub fn new() -> Waiting {
         Waiting {
             calls: 0,

@@ -155,7 +155,8 @@ impl<K: Keeper + Drop> Node<K> {
         halted(halt)
     }
 
-    /// Takes the message of this body.
+    /// Takes the message of this body. A fault of the disk and a spent counter are told once, and `Down` is answered from then on.
+    /// Behind want of memory each turn answers that.
     pub fn take(
         &mut self,
         pass: u64,
@@ -187,7 +188,7 @@ impl<K: Keeper + Drop> Node<K> {
         }
     }
 
-    /// Ends the clerk's open session.
+    /// Ends the clerk's open session. Faults are those of a message.
     pub fn end(&mut self, pass: u64, clerk: ClerkId) -> Result<Told, ServeFault>
         requires { (first : Value K) × Since K.kept K.counts K.did K.broke first self.old }
         ensures keeps { Keeps K.kept K.counts K.did K.broke self.old self.new }
@@ -221,7 +222,7 @@ impl<K: Keeper + Drop> Node<K> {
         told
     }
 
-    /// Whether the clerk has an open session.
+    /// Whether the clerk has an open session. Faults are `Down`, and want of memory in an earlier turn.
     pub fn is_open(&self, clerk: ClerkId) -> Result<bool, ServeFault>
         ensures ok { IfOk result (λ o. (o ≡ is_open (slot (K.kept self.now.keeper) clerk)) × (self.now.halt ≡ None) × (self.now.broken ≡ false)) }
         ensures err { IfErr result (λ f. ((f ≡ fault.Down) × ((h : Stop) × (self.now.halt ≡ Some h))) ⊎ (f ≡ fault.NoMemory)) }
@@ -234,7 +235,7 @@ impl<K: Keeper + Drop> Node<K> {
     }
 
     /// Sends what is there for the link's other end: a refusal, or the first message of its clerk's outbox, where that belongs to the
-    /// pass.
+    /// pass. Faults are `Down`, `Net` where the link fails, and want of memory.
     pub fn give<L: Link, R: Wait + Clock>(
         &mut self,
         rt: &R,

@@ -81,7 +81,7 @@ pub fn told_of(sent: &[(ClerkId, Msg)]) -> Told
     told
 }
 
-/// Puts each message last in its clerk's outbox, where there is room for it.
+/// Puts each message last in its clerk's outbox, where there is room for it. The error is want of memory, behind which some are put.
 pub fn post_all(boxes: &mut Vec<Outbox>, sent: Vec<(ClerkId, Msg)>) -> Result<(), NoMemory>
     requires { length boxes.old.items ≡ clerk_count }
     ensures sized { length boxes.new.items ≡ clerk_count }
@@ -98,7 +98,7 @@ pub fn post_all(boxes: &mut Vec<Outbox>, sent: Vec<(ClerkId, Msg)>) -> Result<()
     Ok(())
 }
 
-/// An outbox for each clerk, with the first messages to it, for any pass.
+/// An outbox for each clerk, with the first messages to it, for any pass. The error is want of memory.
 pub fn filled_boxes(alloc: Global, sent: Vec<(ClerkId, Msg)>) -> Result<Vec<Outbox>, NoMemory>
     ensures sized { IfOk result (λ boxes. length boxes.items ≡ clerk_count) }
     ensures filled { IfOk result (λ boxes. (c : ℕ) → queue_at boxes.items c ≡ put_all [] (for_clerk c sent.items)) }

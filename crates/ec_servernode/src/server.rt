@@ -13,7 +13,7 @@ use ec_protocol::Served;
 use ec_server::{Keeper, Server, ServerFault};
 use ec_wire::Msg;
 
-/// Takes a sound message of a clerk.
+/// Takes a sound message of a clerk. Faults are the server's.
 #[tactic(auto, unfolding(crate::specs::Folded::message_taken))]
 pub fn take<K: Keeper>(
     server: &mut Server,
@@ -33,7 +33,7 @@ pub fn take<K: Keeper>(
     server.take(keeper, from, msg)
 }
 
-/// Ends the open session of a clerk.
+/// Ends the open session of a clerk. Faults are the server's.
 #[tactic(auto, unfolding(crate::specs::Folded::session_ended))]
 pub fn end<K: Keeper>(
     server: &mut Server,

@@ -363,7 +363,8 @@ impl<K: Keeper + Drop> SharedServer<K> {
         }
     }
 
-    /// The administrator's end of the clerk's open session: one step. The clerks to which it sent something.
+    /// The administrator's end of the clerk's open session: one step. The clerks to which it sent something. Faults are those of a
+    /// message: the disk's, a spent counter, `Down` behind one of these, and want of memory.
     pub fn end<R: Wait>(
         &self,
         rt: &R,
@@ -384,7 +385,7 @@ impl<K: Keeper + Drop> SharedServer<K> {
         told
     }
 
-    /// Whether the clerk has an open session.
+    /// Whether the clerk has an open session. Faults are `Down`, and want of memory in an earlier turn.
     pub fn is_open<R: Wait>(
         &self,
         rt: &R,

@@ -48,6 +48,7 @@ pub struct Told {
 }
 
 impl Told {
+    /// No clerk.
     pub fn nobody() -> Told
         ensures { (c : ℕ) → tells result c ≡ false }
     {

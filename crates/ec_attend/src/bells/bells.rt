@@ -38,6 +38,7 @@ pub struct Bells<B: Bell + Drop, D: Bell + Drop> {
 }
 
 impl<B: Bell + Drop, D: Bell + Drop> Bells<B, D> {
+    /// No link has come yet. The error is want of memory.
     pub fn new(alloc: Global, door: D) -> Result<Bells<B, D>, NoMemory> {
         let mut by_clerk = Vec::with_capacity(alloc, CLERK_COUNT as usize)?;
         for _ in 0..CLERK_COUNT {
@@ -128,7 +129,7 @@ impl<B: Bell + Drop, D: Bell + Drop> Bells<B, D> {
         self.is_done.park_timeout(rt, 0, longest);
     }
 
-    /// Makes room for the keys of so many links.
+    /// Makes room for the keys of so many links. The error is want of memory.
     pub fn make_room<R: Wait>(&self, rt: &R, count: usize) -> Result<(), NoMemory> {
         let mut ended = self.ended.lock(rt);
         ended.reserve(count)?;

@@ -33,7 +33,7 @@ pub struct Watch {
 }
 
 impl Watch {
-    /// No clerk has a link yet.
+    /// No clerk has a link yet. The error is want of memory.
     pub fn new<R: Clock>(rt: &R, alloc: Global) -> Result<Watch, NoMemory> {
         let lone = match Instant::now(rt) {
             Ok(since) => Some(Lone {
