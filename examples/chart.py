@@ -4,8 +4,8 @@ Usage: examples/chart.py < TRANSCRIPT > PICTURE.svg    or    examples/chart.py T
 
 Each clerk has a column: a bar is a call, pale while it waits, with what was answered below what was asked; a cross is a crash. A thread hangs from each
 operation at the column's edge, down to where it became durable (green) or was lost (red, with a cross), and the operation's bar has that colour; a thread that
-reaches the end is neither. Dots lead on from a loss to each answer that reports it. The last column is the server: its durable lines, where it stopped and
-started, and which sessions it ended."""
+reaches the end is neither. Dots lead on from a loss to each answer that reports it, which has dots around it. The last column is the server: its durable lines,
+where it stopped and started, grey while it's down, and which sessions it ended. What is in a picture is told below its columns."""
 import re
 import sys
 from html import escape
@@ -16,7 +16,7 @@ TOP = 46
 GAP = 26
 COLOURS = {
     "ink": "#222222",
-    "faint": "#8a8a8a",
+    "faint": "#6a6a6a",
     "rail": "#d5d5d5",
     "wait": "#e4ecf7",
     "call": "#c9dbf2",
@@ -27,8 +27,9 @@ COLOURS = {
     "down": "#d5d5d5",
     "durable call": "#d3ecda",
     "lost call": "#f9d4d4",
+    "report": "#fdf3f2",
 }
-LEGEND = ["durable", "lost", "reported", "neither"]
+THREADS = 6
 ANSWER = re.compile(r"^(\d+) ([A-P]) (.+?) -> (.+)$")
 
 
@@ -58,6 +59,8 @@ class Call:
     def colour(self):
         if self.answer == "waits":
             return "wait"
+        if self.answer.startswith("lost"):
+            return "report"
         return "call" if self.operation is None or self.operation.end is None else f"{self.operation.colour} call"
 
 
@@ -75,7 +78,7 @@ class Clerk:
         return self.running if self.crashed is None else self.crashed
 
     def issue(self, number, row):
-        operation = Operation(row, len(self.threads) % 6)
+        operation = Operation(row, len(self.threads) % THREADS)
         self.threads.append(operation)
         self.running[number] = operation
         return operation
@@ -162,7 +165,7 @@ class Chart:
         texts = [line for _, line in clerk.told]
         for number, call in clerk.calls.items():
             texts += call.texts(number)
-        return max([14] + [len(text) for text in texts]) * CHARACTER + 24 + 6 * 5
+        return max([14] + [len(text) for text in texts]) * CHARACTER + 24 + threads_of(clerk)
 
     def drawn(self):
         height = TOP + (len(self.lines) + 1) * ROW + ROW
@@ -173,17 +176,26 @@ class Chart:
             parts += self.column(name, clerk, left, height - ROW, server)
             left += self.width_of(clerk) + GAP
         parts += self.server(left, height - ROW)
-        parts += legend(height - 10)
+        marks, end = legend(self.kinds(), height - 10)
+        parts += marks
         width = left + max([12] + [len(note[1]) for note in self.notes + [(0, line) for _, line in self.words]]) * CHARACTER + 40
-        width = max(width, 16 + len(LEGEND) * 100)
+        width = max(width, end)
         head = (
             f'<svg xmlns="http://www.w3.org/2000/svg" width="{width:.0f}" height="{height}" viewBox="0 0 {width:.0f} {height}" '
             'font-family="monospace" font-size="12">'
         )
         return "\n".join([head, f'<rect width="{width:.0f}" height="{height}" rx="6" fill="white"/>'] + parts + ["</svg>", ""])
 
+    def kinds(self):
+        """What is in the picture, of all that is told below it."""
+        calls = [call for clerk in self.clerks.values() for call in clerk.calls.values()]
+        threads = [operation for clerk in self.clerks.values() for operation in clerk.threads]
+        found = {operation.colour for operation in threads} | {"reported" for operation in threads if operation.reports}
+        found |= {"waits" for call in calls if call.first < call.last} | {"server down" for _ in self.downs}
+        return [kind for kind in ("waits", "durable", "lost", "reported", "open", "server down") if kind in found]
+
     def column(self, name, clerk, left, height, server):
-        edge = left + self.width_of(clerk) - 6 * 5 - 6
+        edge = left + self.width_of(clerk) - threads_of(clerk) - 6
         parts = [text(left, TOP - 20, f"clerk {name}", "ink", "bold"), rail(left, TOP - 8, height - 8)]
         for number, call in clerk.calls.items():
             parts += bar(left, edge, number, call)
@@ -201,8 +213,13 @@ class Chart:
         parts.append(rail(left, TOP - 8, height - 8))
         for row, line, colour in self.notes:
             parts += [f'<circle cx="{left}" cy="{middle(row) - 4}" r="4" fill="{COLOURS[colour]}"/>', text(left + 12, middle(row), line, colour)]
-        parts += [text(left + 12, middle(row), line, "faint") for row, line in self.words]
+        parts += [text(left + 12, middle(row), line, "faint" if line == "none" else "ink") for row, line in self.words]
         return parts
+
+
+def threads_of(clerk):
+    """The room for a clerk's threads."""
+    return 5 * min(len(clerk.threads), THREADS)
 
 
 def top(row):
@@ -217,8 +234,8 @@ def text(left, base, words, colour, weight="normal"):
     return f'<text x="{left:.1f}" y="{base}" fill="{COLOURS[colour]}" font-weight="{weight}" xml:space="preserve">{escape(words)}</text>'
 
 
-def box(left, upper, width, height, colour):
-    return f'<rect x="{left:.1f}" y="{upper}" width="{width:.1f}" height="{height}" rx="3" fill="{COLOURS[colour]}"/>'
+def box(left, upper, width, height, colour, edge=""):
+    return f'<rect x="{left:.1f}" y="{upper}" width="{width:.1f}" height="{height}" rx="3" fill="{COLOURS[colour]}"{edge}/>'
 
 
 def rail(left, upper, lower):
@@ -235,7 +252,8 @@ def bar(left, edge, number, call):
     parts = []
     if call.first < call.last:
         parts.append(box(left + 6, top(call.first) + 2, edge - left - 6, (call.last - call.first + 1) * ROW - 4, "wait"))
-    parts.append(box(left + 6, top(call.last) + 2, edge - left - 6, ROW - 4, call.colour()))
+    dots = f' stroke="{COLOURS["lost"]}" stroke-dasharray="1.5 3"' if call.colour() == "report" else ""
+    parts.append(box(left + 6, top(call.last) + 2, edge - left - 6, ROW - 4, call.colour(), dots))
     rows = [call.last] if call.first == call.last else [call.first, call.last]
     colours = [colour_of(call.answer)] if call.first == call.last else ["ink", colour_of(call.answer)]
     return parts + [text(left + 12, middle(row), words, colour) for row, words, colour in zip(rows, call.texts(number), colours)]
@@ -264,16 +282,21 @@ def mark(left, at, colour):
     return line(left - 3, at, left + 3, at, colour, 2)
 
 
-def legend(base):
-    """What the threads mean, below the columns."""
-    parts = []
-    for place, words in enumerate(LEGEND):
-        left, at = 16 + 100 * place, base - 4
-        colour = {"reported": "lost", "neither": "open"}.get(words, words)
-        parts.append(line(left, at, left + 14, at, colour, 1.5, "1.5 3" if words == "reported" else ""))
-        parts.append("" if words == "reported" else dot(left, at, colour) + mark(left + 14, at, colour))
+def legend(kinds, base):
+    """What bars and threads mean, below the columns, and where that ends."""
+    parts, left, at = [], 16.0, base - 4
+    for kind in kinds:
+        words = "neither" if kind == "open" else kind
+        colour = {"reported": "lost", "waits": "ink", "server down": "ink"}.get(kind, kind)
+        if kind in ("waits", "server down"):
+            parts.append(box(left, at - 6, 14, 12, "wait" if kind == "waits" else "down"))
+        elif kind == "reported":
+            parts.append(line(left, at, left + 14, at, colour, 1.5, "1.5 3"))
+        else:
+            parts += [line(left, at, left + 14, at, colour), dot(left, at, colour), mark(left + 14, at, colour)]
         parts.append(text(left + 22, base, words, colour))
-    return parts
+        left += 22 + len(words) * CHARACTER + 20
+    return parts, left
 
 
 def cross(left, at, size, colour, width):
