@@ -1,8 +1,8 @@
 #!/usr/bin/env python3
 """Looks whether what the pages cite in backquotes is there. Usage: docs/names.py   (it fails where something isn't, and says where)
 
-Looked for are crates, files, edits and names, in README and docs: each crate is one of crates.txt, each file stands in the repository, and each name is
-declared somewhere. A link leads to a file that is there, and to a heading of it. Each crate stands on the page of its family. More is asked where a page says
+Looked for are crates, files, edits and names, in README, docs and examples/README.md: each crate is one of crates.txt, each file stands in the repository, and
+each name is declared somewhere. A link leads to a file that is there, and to a heading of it. Each crate stands on the page of its family. More is asked where a page says
 of which crate it speaks: `ec_order`, `Order.antt` has to be a file of that crate, `IsLegal` (`ec_history`) and `ec_history`: `IsLegal` have to be declared
 there, and so has `IsLegal` in `Histories.antt` of (`ec_history`, `Histories.antt`) or (`Histories.antt`)."""
 import collections
@@ -14,10 +14,10 @@ import subprocess
 import sys
 
 ROOT = os.path.dirname(os.path.dirname(os.path.realpath(__file__)))
-PAGES = ["README.md"] + sorted(os.path.relpath(path, ROOT) for path in glob.glob(f"{ROOT}/docs/**/*.md", recursive=True))
+PAGES = ["README.md", "examples/README.md"] + sorted(os.path.relpath(path, ROOT) for path in glob.glob(f"{ROOT}/docs/**/*.md", recursive=True))
 ENDING = r"\.(?:antt|rt|py|sh|md|edit|script|transcript|svg|txt|c)\b"
 # What isn't here: the bench's crate, which is none while it isn't built, files that runs make, and names of the language, std and other crates.
-ELSEWHERE = set("ec_bench lose.script lose.transcript echofs.disk Bool Debug Display FinMap Entries where_key is_sorted get_mut Slab PartialEq impl ECHOFS1".split())
+ELSEWHERE = set("ec_bench NAME.script lose.script lose.transcript echofs.disk Bool Debug Display FinMap Entries where_key is_sorted get_mut Slab PartialEq impl ECHOFS1".split())
 
 DECLARED = {
     ".antt": [r"^\s*(?:(?:pub|abbrev|unfoldable) )*([^\s:(){}\[\],]+) :(?: |$)", r"\b(?:record|data) (\S+)", r"^module (\S+)"],
