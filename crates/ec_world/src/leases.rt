@@ -72,7 +72,7 @@ impl World {
         self.pool.is_cut(clerk)
     }
 
-    /// Shows that a line of a script had no effect. `NoMemory` leaves the world as it was.
+    /// Shows that a line of a script had no effect.
     pub fn show_none(&mut self, alloc: Global) -> Result<Shown, NoMemory>
         ensures line { IfOk result (λ line. line ≡ shown.Nothing) }
         ensures value { OnOk result (view_of self.new ≡ (machine.nothing (view_of self.old)).world) }
@@ -82,7 +82,7 @@ impl World {
         Ok(Shown::Nothing)
     }
 
-    /// Shows that a call waits before it begins. `NoMemory` leaves the world as it was.
+    /// Shows that a call waits before it begins.
     pub fn wait(
         &mut self,
         alloc: Global,
