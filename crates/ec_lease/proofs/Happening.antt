@@ -19,7 +19,7 @@ use Rattle.ec_lease_machine.specs.declared.world.LeaseFault.TheVariants as fault
 use Rattle.ec_lease_machine.specs.declared.world.LeaseShown.{LeaseShown}
 use Rattle.ec_lease_machine.specs.declared.world.LeaseShown.TheVariants.{Held}
 use Rattle.ec_lease_machine.specs.declared.world.LeaseWorld.{LeaseWorld as Leases}
-use Rattle.ec_lease_book.specs.Book.{Booked, with_book}
+use Rattle.ec_lease_machine.specs.OfBook.Book.{Booked, with_book}
 use Rattle.ec_store.specs.Store as store
 use Rattle.ec_world.specs.Laws.{in_step_keeps}
 use Rattle.ec_world.specs.StepEnds.{behind_arm}

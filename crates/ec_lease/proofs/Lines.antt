@@ -8,7 +8,7 @@ use Rattle.ec_lease_machine.specs.Leases.{LeaseMoving, moved}
 use Rattle.ec_lease_machine.specs.declared.world.LeaseFault.{LeaseFault}
 use Rattle.ec_lease_machine.specs.declared.world.LeaseShown.{LeaseShown}
 use Rattle.ec_lease_machine.specs.declared.world.LeaseShown.TheVariants.{Line}
-use Rattle.ec_lease_book.specs.Book.{Booked, with_book}
+use Rattle.ec_lease_machine.specs.OfBook.Book.{Booked, with_book}
 use Rattle.ec_world.specs.Worlds as worlds
 use Rattle.ec_lease.specs.Worlds.{under_way}
 use Rattle.ec_lease.specs.declared.world.LeaseWorld.{LeaseWorld}

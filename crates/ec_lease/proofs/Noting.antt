@@ -10,7 +10,7 @@ use Rattle.ec_lease_machine.specs.declared.world.LeaseFault.{LeaseFault}
 use Rattle.ec_lease_machine.specs.declared.world.LeaseShown.{LeaseShown}
 use Rattle.ec_lease_machine.specs.declared.world.LeaseWorld.{LeaseWorld as State}
 use Rattle.ec_lease.specs.Issuing.{note_in}
-use Rattle.ec_lease_book.specs.Book.{Booked, with_book}
+use Rattle.ec_lease_machine.specs.OfBook.Book.{Booked, with_book}
 use Rattle.ec_protocol.specs.declared.world.World.{World}
 use Rattle.ec_world.specs.Leases.{HasSlots}
 use Rattle.ec_lease.specs.Worlds.{under_way, leased}

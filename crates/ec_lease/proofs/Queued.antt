@@ -14,7 +14,7 @@ use Rattle.ec_lease_machine.specs.declared.world.LeaseFault.{LeaseFault}
 use Rattle.ec_lease_machine.specs.declared.world.LeaseFault.TheVariants as fault
 use Rattle.ec_lease_machine.specs.declared.world.LeaseShown.{LeaseShown}
 use Rattle.ec_lease_machine.specs.declared.world.LeaseShown.TheVariants.{Line}
-use Rattle.ec_lease_book.specs.Book.{Booked, with_book}
+use Rattle.ec_lease_machine.specs.OfBook.Book.{Booked, with_book}
 use Rattle.ec_world.specs.Leases.{QueuesNot as BeginsNot}
 use Rattle.ec_world.specs.Worlds as worlds
 use Rattle.ec_world.specs.declared.world.World.{World as Code}

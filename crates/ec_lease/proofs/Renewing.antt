@@ -7,7 +7,7 @@ use Rattle.ec_protocol.specs.Resumes.{open_session}
 use Rattle.ec_lease_machine.specs.Leases.{issue, lease, may_receive, receive, renew_in}
 use Rattle.ec_lease_machine.specs.declared.world.Lease.{Lease}
 use Rattle.ec_lease_machine.specs.declared.world.LeaseWorld.{LeaseWorld as State}
-use Rattle.ec_lease_book.specs.Book.{Booked, with_book}
+use Rattle.ec_lease_machine.specs.OfBook.Book.{Booked, with_book}
 use Rattle.ec_protocol.specs.declared.world.World.{World}
 use Rattle.ec_lease.proofs.Parts.{renew_by}
 

@@ -2,7 +2,7 @@
 use Rattle.std.specs.Prelude.{◌≡◌, ◌+◌, ℕ, None, Some}
 use Rattle.ec_disk.specs.Disk.{View}
 use Rattle.ec_lease.specs.declared.world.LeaseWorld.{LeaseWorld}
-use Rattle.ec_lease_book.specs.Book.{with_book}
+use Rattle.ec_lease_machine.specs.OfBook.Book.{with_book}
 use Rattle.ec_lease_machine.specs.Leases.{LeaseMoving}
 use Rattle.ec_lease_machine.specs.declared.world.LeaseEvent.{LeaseEvent}
 use Rattle.ec_lease_machine.specs.declared.world.LeaseEvent.TheVariants as event

@@ -12,7 +12,7 @@ ghost use Rattle.ec_volume.specs.Update.{member};
 
 use crate::world::LeaseWorld;
 use ec_base::{CLERK_COUNT, ClerkId, NoMemory, SessionNo};
-use ec_lease_book::Lease;
+use ec_lease_machine::book::Lease;
 use std::alloc::Global;
 
 impl LeaseWorld {

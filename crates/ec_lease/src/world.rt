@@ -19,7 +19,7 @@ ghost use Rattle.ec_protocol.specs.declared.world.WorldFault.TheVariants as faul
 
 use ec_base::{CLERK_COUNT, ClerkId, NoMemory};
 use ec_disk::CrashDisk;
-use ec_lease_book::Book;
+use ec_lease_machine::book::Book;
 use ec_lease_machine::{LeaseEvent, LeaseFault, LeaseShown};
 use ec_protocol::WorldFault;
 use ec_wire::MsgKind;

@@ -1,3 +1,5 @@
+pub mod OfBook
+pub mod OfWords
 pub mod OfQueues
 pub mod OfLeaseLaws
 pub mod OfTimely

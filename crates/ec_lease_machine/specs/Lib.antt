@@ -1,4 +1,6 @@
 pub mod Leases
+pub mod OfBook
+pub mod OfWords
 pub mod Drill
 pub mod Runs
 pub mod Rows

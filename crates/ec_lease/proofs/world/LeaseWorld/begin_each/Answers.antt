@@ -2,7 +2,7 @@ use Rattle.std.proofs.Common.{◌≡◌, [], true, length, drop, inl, inr, sym, 
 use Rattle.std.specs.Prelude.{◌⊎◌}
 use Rattle.std.proofs.lemmas.List.{drop_all}
 use Rattle.ec_base.specs.Tables.{at_or}
-use Rattle.ec_lease_book.specs.Book.{Booked}
+use Rattle.ec_lease_machine.specs.OfBook.Book.{Booked}
 use Rattle.ec_lease_machine.specs.Leases.{is_held}
 use Rattle.ec_lease.specs.Worlds.{leased}
 use Rattle.ec_lease.proofs.Queued.{all_begun}
