@@ -11,3 +11,4 @@ pub mod Parts
 pub mod Queued
 pub mod Renewing
 pub mod Rounds
+pub mod OfDrill

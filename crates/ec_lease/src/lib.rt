@@ -2,6 +2,7 @@
 //! of the machine of leases.
 #![tactic(auto)]
 
+pub mod drill;
 mod events;
 mod issuing;
 mod queues;

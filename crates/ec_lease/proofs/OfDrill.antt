@@ -1,0 +1,9 @@
+pub mod Known
+pub mod Writes
+pub mod Lines
+pub mod Fresh
+pub mod Carried
+pub mod Runs
+pub mod Fits
+pub mod Closings
+pub mod Ends
