@@ -7,3 +7,4 @@ pub mod Runs
 pub mod Fits
 pub mod Closings
 pub mod Ends
+pub mod Promise

@@ -5,3 +5,4 @@ pub mod Writing
 pub mod Steps
 pub mod Closing
 pub mod Starts
+pub mod Promise
