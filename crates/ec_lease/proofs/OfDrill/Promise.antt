@@ -24,9 +24,9 @@ use Rattle.ec_lease_machine.specs.declared.words.line.LeaseLine.{LeaseLine}
 use Rattle.ec_lease_machine.specs.declared.words.line.LeaseLine.TheVariants as leased
 use Rattle.ec_lease_machine.specs.Drill.{LeaseRead, drill, drill_in, joined_lease, reads, unfit}
 use Rattle.ec_lease_machine.specs.OfLeaseWorlds.Runs.{AreLeased, IsCallIn, IsFit, lease_run, unheld}
-use Rattle.ec_lease_machine.proofs.OfLeaseWorlds.Runs.{runs-leased}
+use Rattle.ec_lease_machine.proofs.OfLeaseWorlds.Runs.{runs-leased, unheld-append}
 use Rattle.ec_lease_machine.specs.declared.world.LeaseShown.{LeaseShown}
-use Rattle.ec_lease_machine.specs.declared.world.LeaseShown.TheVariants.{Line, Held}
+use Rattle.ec_lease_machine.specs.declared.world.LeaseShown.TheVariants.{Line}
 use Rattle.ec_lawful.specs.Calls.{IsOf}
 use Rattle.ec_lease.specs.OfDrill.Drill.{GivesReads, LeaseOutside, RanAll, RanPart}
 use Rattle.ec_lease.specs.OfDrill.Promise.{AreLegalOn, IsLegalRun, SaysEnd}
@@ -102,11 +102,6 @@ run-legal l e rs fates d is fit start opened = ∥∥₁_map is.formed (λ forme
 
 -- A front of its lines.
 
-unheld-more : (xs ys : List LeaseShown) → unheld (xs ++ ys) ≡ unheld xs ++ unheld ys
-unheld-more [] ys = refl
-unheld-more (Line s ∷ xs) ys = ap (λ z. s ∷ z) (unheld-more xs ys)
-unheld-more (Held c m ∷ xs) ys = unheld-more xs ys
-
 first-lines : (P : Shown → Type 0) (xs ys : List Shown) → EachLine P (xs ++ ys) → EachLine P xs
 first-lines P [] ys each = tt
 first-lines P (x ∷ xs) ys each = (each.0, first-lines P xs ys each.1)
@@ -160,7 +155,7 @@ front-legal rs d shown more a = by (split shown more a.told (map Line a.why) a.w
       written = sym (append-nil shown);
       at_most_one = omega arith;
       says = tt;
-      leased = front-leased rs (images d.volume) d.max_objects (unheld shown) (unheld r.0) (subst (λ (ss : List Shown). AreLeased rs (images d.volume) d.max_objects ss) (ap unheld r.1 ∙ unheld-more shown r.0) a.leased);
+      leased = front-leased rs (images d.volume) d.max_objects (unheld shown) (unheld r.0) (subst (λ (ss : List Shown). AreLeased rs (images d.volume) d.max_objects ss) (ap unheld r.1 ∙ unheld-append shown r.0) a.leased);
     }
     by (inr is) = record { told = a.told; why = a.why; written = is; at_most_one = a.at_most_one; says = a.says; leased = a.leased }
 

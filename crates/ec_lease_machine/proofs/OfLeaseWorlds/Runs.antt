@@ -66,7 +66,7 @@ no-fault q = absurd (none_some (sym q))
 
 -- Lines without `held`.
 
-unheld-append : (xs ys : List LeaseShown) → unheld (xs ++ ys) ≡ unheld xs ++ unheld ys
+pub unheld-append : (xs ys : List LeaseShown) → unheld (xs ++ ys) ≡ unheld xs ++ unheld ys
 unheld-append [] ys = refl
 unheld-append (Line s ∷ xs) ys = ap (λ z. s ∷ z) (unheld-append xs ys)
 unheld-append (Held c m ∷ xs) ys = unheld-append xs ys
