@@ -4,3 +4,4 @@ pub mod OfQueues
 pub mod OfLeaseLaws
 pub mod OfTimely
 pub mod OfLeaseWorlds
+pub mod OfPlain

@@ -1,3 +1,4 @@
 pub mod Queues
 pub mod Printed
+pub mod Lines
 pub mod Runs

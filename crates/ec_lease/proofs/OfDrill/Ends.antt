@@ -22,7 +22,7 @@ use Rattle.ec_world.specs.Steps.{Opens}
 use Rattle.ec_world.specs.StepEnds.{Unopened}
 use Rattle.ec_lease_machine.specs.Drill.{LeaseRan, LeaseRead, bound, close, drill_in, joined_lease, run_from}
 use Rattle.ec_lease_machine.specs.Leases.{opened_leases}
-use Rattle.ec_lease_machine.specs.OfLeaseWorlds.Runs.{lease_run}
+use Rattle.ec_lease_machine.specs.OfLeaseWorlds.Lines.{lease_run}
 use Rattle.ec_lease_machine.specs.declared.world.LeaseShown.TheVariants.{Line}
 use Rattle.ec_lease_machine.specs.declared.world.LeaseWorld.{LeaseWorld}
 use Rattle.ec_lease.specs.declared.world.LeaseWorld.{LeaseWorld as Opened}

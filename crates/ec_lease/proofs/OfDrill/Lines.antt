@@ -31,7 +31,7 @@ read_one e script done ahead next b ls ms l all are f is shown = (
 pub read_all : (e : ℕ) (script ahead : List ℕ) (done : List (List ℕ)) (ls : List ScriptLine) → lines_of script ≡ done ++ lines_of ahead → ahead ≡ [] → AreRead e done (map read_of ls) → AreRead e (lines_of script) (map read_of ls)
 read_all e script ahead done ls all none h = subst (λ (bs : List (List ℕ)). AreRead e bs (map read_of ls)) (sym (all ∙ ap (λ b. done ++ lines_of b) none ∙ append-nil done)) h
 
-as-many : (e : ℕ) (bs : List (List ℕ)) (rs : List LeaseRead) → AreRead e bs rs → length rs ≡ length bs
+pub as-many : (e : ℕ) (bs : List (List ℕ)) (rs : List LeaseRead) → AreRead e bs rs → length rs ≡ length bs
 as-many e [] [] are = refl
 as-many e [] (r ∷ rs) are = absurd are
 as-many e (b ∷ bs) [] are = absurd are

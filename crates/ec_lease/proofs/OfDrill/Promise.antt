@@ -23,8 +23,10 @@ use Rattle.ec_lease_machine.specs.OfWords.Grammar.{IsLeaseLine}
 use Rattle.ec_lease_machine.specs.declared.words.line.LeaseLine.{LeaseLine}
 use Rattle.ec_lease_machine.specs.declared.words.line.LeaseLine.TheVariants as leased
 use Rattle.ec_lease_machine.specs.Drill.{LeaseRead, drill, drill_in, joined_lease, reads, unfit}
-use Rattle.ec_lease_machine.specs.OfLeaseWorlds.Runs.{AreLeased, IsCallIn, IsFit, lease_run, unheld}
-use Rattle.ec_lease_machine.proofs.OfLeaseWorlds.Runs.{runs-leased, unheld-append}
+use Rattle.ec_lease_machine.specs.OfLeaseWorlds.Lines.{lease_run, unheld}
+use Rattle.ec_lease_machine.specs.OfLeaseWorlds.Runs.{AreLeased, IsCallIn, IsFit}
+use Rattle.ec_lease_machine.proofs.OfLeaseWorlds.Coming.{unheld-append}
+use Rattle.ec_lease_machine.proofs.OfLeaseWorlds.Runs.{runs-leased}
 use Rattle.ec_lease_machine.specs.declared.world.LeaseShown.{LeaseShown}
 use Rattle.ec_lease_machine.specs.declared.world.LeaseShown.TheVariants.{Line}
 use Rattle.ec_lawful.specs.Calls.{IsOf}
@@ -76,13 +78,13 @@ fit_reads e (b ∷ bs) (r ∷ rs) are = (read_fits e b r are.0, fit_reads e bs r
 
 -- A run to its end.
 
-few-why : (e : Ending) → length (last_line e) ≤ 1
+pub few-why : (e : Ending) → length (last_line e) ≤ 1
 few-why Done = omega arith
 few-why (BadLine number column) = omega arith
 few-why (TooMany n) = omega arith
 few-why (IsSpent n) = omega arith
 
-says-why : (e : Ending) → EachLine SaysEnd (last_line e)
+pub says-why : (e : Ending) → EachLine SaysEnd (last_line e)
 says-why Done = tt
 says-why (BadLine number column) = (tt, tt)
 says-why (TooMany n) = (tt, tt)
@@ -127,7 +129,7 @@ module _ {A : Type 0} where
   none-first (x ∷ xs) ys e = absurd (nil-not x (xs ++ ys) e)
 
   -- a front of lines and at most one more
-  split : (xs ys us vs : List A) → xs ++ ys ≡ us ++ vs → length vs ≤ 1 → ((rest : List A) × (us ≡ xs ++ rest)) ⊎ (xs ≡ us ++ vs)
+  pub split : (xs ys us vs : List A) → xs ++ ys ≡ us ++ vs → length vs ≤ 1 → ((rest : List A) × (us ≡ xs ++ rest)) ⊎ (xs ≡ us ++ vs)
   split [] ys us vs e few = inl (us, refl)
   split (x ∷ xs) ys [] [] e few = absurd (nil-not x (xs ++ ys) e)
   split (x ∷ xs) ys [] (v ∷ []) e few = inr (ap (λ z. z ∷ xs) (parts-are x v (xs ++ ys) [] e).0 ∙ ap (λ z. v ∷ z) (none-first xs ys (parts-are x v (xs ++ ys) [] e).1))
@@ -141,7 +143,7 @@ module _ {A : Type 0} where
       by (inl r) = inl (r.0, ap (λ z. z ∷ us) (sym same) ∙ ap (λ z. x ∷ z) r.1)
       by (inr r) = inr (ap (λ z. z ∷ xs) same ∙ ap (λ z. u ∷ z) r)
 
-as-long : (ss : List Shown) → length (map Line ss) ≤ length ss
+pub as-long : (ss : List Shown) → length (map Line ss) ≤ length ss
 as-long [] = omega arith
 as-long (s ∷ ss) = let rest = as-long ss in omega (arith, rest)
 
@@ -161,7 +163,7 @@ front-legal rs d shown more a = by (split shown more a.told (map Line a.why) a.w
 
 -- The drill.
 
-fits_given : (e : ℕ) (w : LeaseOutside) (rs : List LeaseRead) → GivesReads e w rs → Each IsFit rs
+pub fits_given : (e : ℕ) (w : LeaseOutside) (rs : List LeaseRead) → GivesReads e w rs → Each IsFit rs
 fits_given e w rs g = fit_reads e _ rs g.read
 
 pub all_legal : (l e number : ℕ) (w : LeaseOutside) (r : RanAll l e number w) → IsLegalRun w r.reads r.state r.shown

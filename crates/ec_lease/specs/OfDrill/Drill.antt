@@ -15,7 +15,7 @@ use Rattle.ec_protocol.specs.Drill.{Fates}
 use Rattle.ec_protocol.specs.World.{runs, open_world}
 use Rattle.ec_lease_machine.specs.OfWords.Text.{lease_text, lease_texts}
 use Rattle.ec_lease_machine.specs.Drill.{LeaseRead, drill}
-use Rattle.ec_lease_machine.specs.OfLeaseWorlds.Runs.{lease_run}
+use Rattle.ec_lease_machine.specs.OfLeaseWorlds.Lines.{lease_run}
 use Rattle.ec_lease_machine.specs.declared.world.LeaseShown.{LeaseShown}
 use Rattle.ec_world.specs.Steps.{Opens}
 use Rattle.ec_lease.specs.OfDrill.Script.{AreRead, lease_objects, most_bytes, most_lines}

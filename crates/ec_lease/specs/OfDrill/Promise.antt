@@ -8,7 +8,8 @@ use Rattle.ec_history.specs.declared.shown.Shown.TheVariants.{Bad, DiskBad, Limi
 use Rattle.ec_protocol.specs.World.{open_world}
 use Rattle.ec_protocol.specs.declared.world.World.{World}
 use Rattle.ec_lease_machine.specs.Drill.{LeaseRead}
-use Rattle.ec_lease_machine.specs.OfLeaseWorlds.Runs.{AreLeased, unheld}
+use Rattle.ec_lease_machine.specs.OfLeaseWorlds.Lines.{unheld}
+use Rattle.ec_lease_machine.specs.OfLeaseWorlds.Runs.{AreLeased}
 use Rattle.ec_lease_machine.specs.declared.world.LeaseShown.{LeaseShown}
 use Rattle.ec_lease_machine.specs.declared.world.LeaseShown.TheVariants.{Line}
 use Rattle.ec_lease.specs.OfDrill.Drill.{LeaseOutside, IsSeenAll}

@@ -13,7 +13,7 @@ use Rattle.ec_protocol.specs.declared.world.WorldFault.{WorldFault}
 use Rattle.ec_protocol.specs.declared.world.WorldFault.TheVariants as fault
 use Rattle.ec_protocol.specs.Drill.{Fates}
 use Rattle.ec_lease_machine.specs.Drill.{LeaseRead, drill_in}
-use Rattle.ec_lease_machine.specs.OfLeaseWorlds.Runs.{lease_run}
+use Rattle.ec_lease_machine.specs.OfLeaseWorlds.Lines.{lease_run}
 use Rattle.ec_lease_machine.specs.declared.world.LeaseShown.{LeaseShown}
 use Rattle.ec_lease.specs.OfDrill.Script.{AreRead, most_bytes, most_lines}
 use Rattle.ec_lease.specs.OfDrill.Drill.{LeaseOutside, GivesReads, IsClear, KeepsState, LeaseDrilled}

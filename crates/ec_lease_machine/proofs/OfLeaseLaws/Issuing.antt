@@ -90,16 +90,16 @@ greater-right m n = go (nat_lt m n) refl
     go false q = above m n q
 
 -- the moment of a Lease for its own session
-moment-own : (s m : ℕ) → moment_in s (Some (record { session = s; moment = m })) ≡ Some m
+pub moment-own : (s m : ℕ) → moment_in s (Some (record { session = s; moment = m })) ≡ Some m
 moment-own s m = ap (λ z. elim z as (λ y. Option ℕ) [ true ↦ Some m | false ↦ None ]) (same s)
 
 raises : (o : Option Lease) (s m n : ℕ) → moment_in s o ≡ Some m → m ≤ greater (or_else 0 (moment_in s o)) n
 raises o s m n q = subst (λ i. m ≤ greater (or_else 0 i) n) (sym q) (greater-left m n)
 
-at-own : {A : Type 0} (c : ℕ) (k : A) (es : List (ℕ × A)) → at c (put c k es) ≡ Some k
+pub at-own : {A : Type 0} (c : ℕ) (k : A) (es : List (ℕ × A)) → at c (put c k es) ≡ Some k
 at-own c k es = at-put c c k es ∙ ap (λ z. cond z (Some k) (at c es)) (same c)
 
-at-other : {A : Type 0} (d c : ℕ) (k : A) (es : List (ℕ × A)) → (d == c) ≡ false → at d (put c k es) ≡ at d es
+pub at-other : {A : Type 0} (d c : ℕ) (k : A) (es : List (ℕ × A)) → (d == c) ≡ false → at d (put c k es) ≡ at d es
 at-other d c k es q = at-put d c k es ∙ ap (λ z. cond z (Some k) (at d es)) q
 
 -- The session that a Lease is noted or issued for is open on the disk, and was opened before.

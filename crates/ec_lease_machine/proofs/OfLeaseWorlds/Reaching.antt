@@ -96,7 +96,7 @@ renew-leaves (c ∷ cs) y = let r = renew-leaves cs (renew_in c (session c y.wor
 
 -- Clerks that are held.
 
-in-run : (first n c : ℕ) → first ≤ c → c < first + n → member c (run first n) ≡ true
+pub in-run : (first n c : ℕ) → first ≤ c → c < first + n → member c (run first n) ≡ true
 in-run first zero c l m = absurd (omega (arith, l, m))
 in-run first (suc n) c l m = by (c == first) refl (λ a b. in-run (first + 1) n c a b)
   where

@@ -106,8 +106,8 @@ module _ (d : Durable) (wf : WellFormed d) (sixteen : length d.sessions ≡ 16) 
   queues-by : QueuesKeep G
   queues-by = queued-in-run (images d.volume) d.max_objects
 
-  holds : (w : World) → QueuedReached d w → steps.HoldsIn G w
-  holds = reached-holds d G (kept-by d wf sixteen zero) queues-by (opened-holds d wf sixteen zero)
+  pub queued-stands : (w : World) → QueuedReached d w → steps.HoldsIn G w
+  queued-stands = reached-holds d G (kept-by d wf sixteen zero) queues-by (opened-holds d wf sixteen zero)
 
   -- its calls are within their bounds
   bounded-of : (w : World) → QueuedReached d w → AreOf IsBounded w
@@ -124,7 +124,7 @@ module _ (d : Durable) (wf : WellFormed d) (sixteen : length d.sessions ≡ 16) 
   bounded-of _ (resumes w r c l cl may ok) = let k = bounded-of w r in adds-of IsBounded w (resume c l cl w) k (resume-adds IsBounded w k.calls c l cl may.bounded ok)
 
   pub queued-in-order : (w : World) → QueuedReached d w → IsInOrder (images d.volume) d.max_objects w
-  queued-in-order w r = in-order-of d wf sixteen zero w (holds w r) (bounded-of w r).shown
+  queued-in-order w r = in-order-of d wf sixteen zero w (queued-stands w r) (bounded-of w r).shown
 
   -- and nobody said goodbye
   abbrev first : ℕ → ℕ

@@ -11,7 +11,8 @@ use Rattle.ec_words.proofs.Misfits.{choice_has, choice_is}
 use Rattle.ec_words.proofs.Named.{hash}
 use Rattle.ec_script.specs.Grammar.{Head, IsHead, Spells}
 use Rattle.ec_script.specs.declared.line.Line.{Line}
-use Rattle.ec_lease_machine.specs.OfWords.Grammar.{ClockSays, IsClockWord, NoClockIn, IsLeaseHead, LeaseBegun, LeaseHead, SpellsLease, clock_name}
+use Rattle.ec_lease_machine.specs.OfWords.First.{NoClockIn}
+use Rattle.ec_lease_machine.specs.OfWords.Grammar.{ClockSays, IsClockWord, IsLeaseHead, LeaseBegun, LeaseHead, SpellsLease, clock_name}
 use Rattle.ec_lease_machine.specs.declared.words.line.LeaseLine.{LeaseLine}
 use Rattle.ec_lease_machine.specs.declared.words.line.LeaseLine.TheVariants as line
 use Rattle.ec_lease_machine.specs.declared.words.name.ClockWord.{ClockWord}

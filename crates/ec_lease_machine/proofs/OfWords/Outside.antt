@@ -12,7 +12,8 @@ use Rattle.ec_script.specs.declared.line.Line.{Line}
 use Rattle.ec_script.specs.declared.line.Line.TheVariants.{Comment}
 use Rattle.ec_script.specs.declared.line.LineFault.{LineFault}
 use Rattle.ec_script.specs.declared.line.LineFault.TheVariants as fault
-use Rattle.ec_lease_machine.specs.OfWords.Grammar.{ClockSays, IsClockWord, IsLeaseFault, IsLeaseLine, NoClockIn, SpellsLease}
+use Rattle.ec_lease_machine.specs.OfWords.First.{NoClockIn}
+use Rattle.ec_lease_machine.specs.OfWords.Grammar.{ClockSays, IsClockWord, IsLeaseFault, IsLeaseLine, SpellsLease}
 use Rattle.ec_lease_machine.specs.declared.words.line.LeaseLine.{LeaseLine}
 use Rattle.ec_lease_machine.specs.declared.words.line.LeaseLine.TheVariants as line
 use Rattle.ec_lease_machine.specs.declared.words.name.ClockWord.{ClockWord}

@@ -1,5 +1,5 @@
 -- The grammar of a line of a script with leases: a drill's, or one of clocks and leases.
-use Rattle.std.specs.Prelude.{◌≡◌, ◌⊎◌, ◌*◌, ℕ, List, ◌∷◌, ⊤, codes}
+use Rattle.std.specs.Prelude.{◌≡◌, ◌⊎◌, ◌*◌, ℕ, List, ⊤, codes}
 use Rattle.std.proofs.Common.{inl, inr}
 use Rattle.ec_words.specs.Words.{words_of}
 use Rattle.ec_words.specs.Rows.{Word, ◌▸◌, Last, ◌⊳◌, ◌makes◌}
@@ -21,14 +21,6 @@ clock_name clock.Hand = codes "hand"
 
 abbrev pub IsClockWord : Word → ClockWord → Type 0
 IsClockWord w k = w ≡ clock_name k
-
--- none of these words is the first one
-abbrev pub NoClockIn : List Word → Type 0
-NoClockIn ws = (w : Word) (rest : List Word) (k : ClockWord) → ws ≡ w ∷ rest → IsClockWord w k → ⊥
-
--- such a word is the first one, and these stand behind it
-abbrev pub StartsClock : List Word → ClockWord → List Word → Type 0
-StartsClock ws k rest = (w : Word) × ((ws ≡ w ∷ rest) × IsClockWord w k)
 
 -- so much a tick may be at most
 abbrev pub most_ticks : ℕ

@@ -2,7 +2,8 @@
 ghost use Rattle.std.specs.Prelude.{◌≤◌, MatchOption, MatchResult};
 ghost use Rattle.ec_words.specs.Words.{words_of};
 ghost use Rattle.ec_words.specs.RowsLeft.{left};
-ghost use Rattle.ec_lease_machine.specs.OfWords.Grammar.{IsLeaseLine, IsLeaseFault, NoClockIn, StartsClock};
+ghost use Rattle.ec_lease_machine.specs.OfWords.First.{NoClockIn, StartsClock};
+ghost use Rattle.ec_lease_machine.specs.OfWords.Grammar.{IsLeaseLine, IsLeaseFault};
 
 use crate::words::name::{ClockWord, clock_word_of};
 use crate::words::row::read_clock_word;
