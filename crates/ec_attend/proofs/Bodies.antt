@@ -13,7 +13,7 @@ use Rattle.ec_servernode.specs.declared.shared.Turned.{Turned}
 use Rattle.ec_servernode.specs.declared.shared.Turned.TheVariants as turned
 use Rattle.ec_servernode.specs.declared.state.Node.{Node}
 use Rattle.ec_servernode.specs.declared.step.Deed.{Deed}
-use Rattle.ec_servernode.specs.declared.step.Deed.TheVariants.{Took, Gave, Refused, Halted, Ended, HaltedEnd}
+use Rattle.ec_servernode.specs.declared.step.Deed.TheVariants.{Took, Gave, Refused, Halted, Ended, HaltedEnd, Broke}
 use Rattle.ec_servernode.specs.declared.step.Step.{Step}
 use Rattle.ec_servernode.specs.Bodies.{heard_of, heard_by, said_of, said_by}
 use Rattle.ec_servernode.specs.declared.caller.Caller.{Caller}
@@ -74,6 +74,7 @@ taking bytes (Refused m) is = absurd is
 taking bytes (Halted c b m h) is = absurd is
 taking bytes (Ended c served) is = absurd is
 taking bytes (HaltedEnd c h) is = absurd is
+taking bytes Broke is = absurd is
 
 giving : (caller : Caller) (m : Msg) (d : Deed) → IsGiving caller m d → (heard_of d ≡ []) × (said_of d ≡ msg_code.spell m ∷ []) × IsNoEnd d
 giving caller m (Took c b n served) is = absurd is
@@ -82,6 +83,7 @@ giving caller m (Refused n) is = (refl, ap (λ (x : Msg). msg_code.spell x ∷ [
 giving caller m (Halted c b n h) is = absurd is
 giving caller m (Ended c served) is = absurd is
 giving caller m (HaltedEnd c h) is = absurd is
+giving caller m Broke is = absurd is
 
 -- the link is at its end, and gave this last
 ends_with : (own : List Step) (rest : List Heard) (given later : Option (List Heard)) (got after : Option (List (List ℕ))) → IsRest rest → later ≡ added given rest → after ≡ got → IsSoFar own given got → Carries own later after

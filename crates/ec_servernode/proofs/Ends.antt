@@ -1,5 +1,5 @@
 -- How a turn ends.
-use Rattle.std.proofs.Common.{◌≡◌, ◌⊎◌, ℕ, ◌+◌, Bool, true, false, not, List, [], ◌∷◌, ◌++◌, Option, Some, None, Result, Ok, Err, Vec, sym, refl, ap, ◌∙◌, subst, ⊎_elim, append-nil}
+use Rattle.std.proofs.Common.{◌≡◌, ◌⊎◌, ℕ, ◌+◌, Bool, true, false, not, List, [], ◌∷◌, ◌++◌, Option, Some, None, Result, Ok, Err, Vec, sym, refl, ap, ◌∙◌, subst, ⊎_elim, inl, inr, append-nil}
 use Rattle.std.specs.declared.alloc.Global.{Global}
 use Rattle.std.specs.declared.snapshot.Snapshot.{Snapshot}
 use Rattle.ec_base.specs.declared.counter.Counter.{Counter}
@@ -15,7 +15,7 @@ use Rattle.ec_server.specs.declared.server.Server.{Server}
 use Rattle.ec_servernode.specs.declared.step.Halt.{Halt}
 use Rattle.ec_servernode.specs.declared.step.Halt.TheVariants as halt
 use Rattle.ec_servernode.specs.declared.step.Deed.{Deed}
-use Rattle.ec_servernode.specs.declared.step.Deed.TheVariants.{Took, Halted, Ended, HaltedEnd}
+use Rattle.ec_servernode.specs.declared.step.Deed.TheVariants.{Took, Halted, Ended, HaltedEnd, Broke}
 use Rattle.ec_servernode.specs.declared.caller.Caller.{Caller}
 use Rattle.ec_servernode.specs.declared.caller.Refusal.{Refusal}
 use Rattle.ec_servernode.specs.declared.step.Step.{Step}
@@ -26,11 +26,12 @@ use Rattle.ec_servernode.specs.declared.state.Told.{Told}
 use Rattle.ec_servernode.specs.declared.fault.ServeFault.{ServeFault}
 use Rattle.ec_servernode.specs.declared.fault.ServeFault.TheVariants as fault
 use Rattle.ec_servernode.specs.Callers.{hello_in, accepted, refusal_in, posted, behind, refusal_sent}
+use Rattle.ec_servernode.specs.Breaking.{spends}
 use Rattle.ec_servernode.specs.Run.{Halts, caller_after, caller_by}
 use Rattle.ec_servernode.specs.Node.{CountsUp}
-use Rattle.ec_servernode.specs.Steps.{TookAs, EndedAs, Halts as Stops, RefusesMessage, halt_in, spends}
+use Rattle.ec_servernode.specs.Steps.{TookAs, EndedAs, Halts as Stops, Fell, RefusesMessage, halt_in}
 use Rattle.ec_servernode.specs.Told.{IsToldOf}
-use Rattle.ec_servernode.specs.TurnSteps.{More, TakeFails, Takes, EndFails, EndsTurn, Gives, fault_of}
+use Rattle.ec_servernode.specs.TurnSteps.{More, Falls, TakeFails, Takes, EndFails, EndsTurn, Gives, fault_of}
 use Rattle.ec_servernode.proofs.Runs.{caller-push}
 
 -- Counts behind the server's step.
@@ -67,7 +68,7 @@ pub next_caller : {K : Type 0} (pass c : ℕ) (bytes : Snapshot (Vec ℕ Global)
 next_caller pass c bytes m served old new server keeper hello refusal t hello_is refusal_is =
     let xs = old.trace.items in
     let k = caller_by pass xs in
-    let x : Step = record { pass = pass; deed = Took c bytes t.shot t.copy } in
+    let x : Step = record { pass = pass; deed = Took c bytes t.shot t.copy; lost = new.broken } in
     ap (caller_by pass) t.grew.list ∙ (caller-push pass xs x refl ∙ (ap (λ y. behind (accepted (refusal_in t.copy.value.sent) (hello_in y)) (refusal_in t.copy.value.sent) k) t.shot_is
     ∙ (ap (λ (y : Served). behind (accepted (refusal_in y.sent) (hello_in m)) (refusal_in y.sent) k) t.copy_is ∙ (ap (λ h. behind h (refusal_in served.sent) k) (sym hello_is) ∙ ap (λ r. behind hello r k) (sym refusal_is)))))
 
@@ -83,20 +84,20 @@ no_more pass old new e = (e ∙ sym (append-nil old.trace.items), tt)
 pub grew_takes : {K : Type 0} (pass c : ℕ) (bytes : Snapshot (Vec ℕ Global)) (m : Msg) (served : Served) (old new : Node K) (server : Server) (keeper : K) (told : Told) → old.halt ≡ None
     → TookAs pass c bytes m served (record old { server = server; keeper = keeper }) new → IsToldOf told (posted served.sent) → Takes pass bytes.value.items old new (Ok told)
 grew_takes pass c bytes m served old new server keeper told none t is =
-    let x : Step = record { pass = pass; deed = Took c bytes t.shot t.copy } in
+    let x : Step = record { pass = pass; deed = Took c bytes t.shot t.copy; lost = new.broken } in
     ((x, (t.grew.list, (refl, tt)), refl, subst (λ (s : Served). IsToldOf told (posted s.sent)) (sym t.copy_is) is), t.grew.halt_is ∙ none)
 
 pub grew_ends : {K : Type 0} (pass c : ℕ) (served : Served) (old new : Node K) (server : Server) (keeper : K) (told : Told) → old.halt ≡ None
     → EndedAs pass c served (record old { server = server; keeper = keeper }) new → IsToldOf told served.sent → EndsTurn pass c old new (Ok told)
 grew_ends pass c served old new server keeper told none t is =
-    let x : Step = record { pass = pass; deed = Ended c t.copy } in
+    let x : Step = record { pass = pass; deed = Ended c t.copy; lost = new.broken } in
     ((x, (t.grew.list, (refl, tt)), refl, subst (λ (s : Served). IsToldOf told s.sent) (sym t.copy_is) is), t.grew.halt_is ∙ none)
 
 pub stop_fails : {K : Type 0} (pass c : ℕ) (bytes : Snapshot (Vec ℕ Global)) (m : Snapshot Msg) (h : Halt) (old new : Node K) (server : Server) (keeper : K) (f : ServeFault) → f ≡ fault_of h
     → Stops pass (Halted c bytes m h) h (record old { server = server; keeper = keeper }) new → TakeFails pass bytes.value.items old new f
 stop_fails pass c bytes m h old new server keeper f is s = subst (TakeFails pass bytes.value.items old new) (sym is) (by h s) where
   step : Halt → Step
-  step k = record { pass = pass; deed = Halted c bytes m k }
+  step k = record { pass = pass; deed = Halted c bytes m k; lost = false }
 
   by : (k : Halt) → Stops pass (Halted c bytes m k) k (record old { server = server; keeper = keeper }) new → TakeFails pass bytes.value.items old new (fault_of k)
   by halt.DiskFailed s = (step halt.DiskFailed, (s.list, (refl, tt)), (refl, refl))
@@ -107,23 +108,29 @@ pub stop_ends : {K : Type 0} (pass c : ℕ) (h : Halt) (old new : Node K) (serve
     → Stops pass (HaltedEnd c h) h (record old { server = server; keeper = keeper }) new → EndFails pass c old new f
 stop_ends pass c h old new server keeper f is s = subst (EndFails pass c old new) (sym is) (by h s) where
   step : Halt → Step
-  step k = record { pass = pass; deed = HaltedEnd c k }
+  step k = record { pass = pass; deed = HaltedEnd c k; lost = false }
 
   by : (k : Halt) → Stops pass (HaltedEnd c k) k (record old { server = server; keeper = keeper }) new → EndFails pass c old new (fault_of k)
   by halt.DiskFailed s = (step halt.DiskFailed, (s.list, (refl, tt)), (refl, refl))
   by halt.DiskStopped s = (step halt.DiskStopped, (s.list, (refl, tt)), (refl, refl))
   by (halt.Spent n) s = (step (halt.Spent n), (s.list, (refl, tt)), (refl, refl))
 
+-- a mark was added
+pub fell_more : {K : Type 0} (pass : ℕ) (old new : Node K) (server : Server) (keeper : K) → Fell pass (record old { server = server; keeper = keeper }) new → Falls pass old new
+fell_more pass old new server keeper f =
+    let x : Step = record { pass = pass; deed = Broke; lost = true } in
+    inr (x, (f.list, (refl, tt)), refl)
+
 -- nothing may be done
 pub check_takes : {K : Type 0} (pass : ℕ) (bytes : List ℕ) (n : Node K) (f : ServeFault) → ((f ≡ fault.Down) × ((h : Halt) × (n.halt ≡ Some h))) ⊎ (f ≡ fault.NoMemory) → TakeFails pass bytes n n f
 check_takes pass bytes n f h =
     ⊎_elim (λ (e : (f ≡ fault.Down) × ((h : Halt) × (n.halt ≡ Some h))). subst (TakeFails pass bytes n n) (sym e.0) (no_more pass n n refl, e.1))
-    (λ (e : f ≡ fault.NoMemory). subst (TakeFails pass bytes n n) (sym e) (no_more pass n n refl)) h
+    (λ (e : f ≡ fault.NoMemory). subst (TakeFails pass bytes n n) (sym e) (inl (no_more pass n n refl))) h
 
 pub check_ends : {K : Type 0} (pass clerk : ℕ) (n : Node K) (f : ServeFault) → ((f ≡ fault.Down) × ((h : Halt) × (n.halt ≡ Some h))) ⊎ (f ≡ fault.NoMemory) → EndFails pass clerk n n f
 check_ends pass clerk n f h =
     ⊎_elim (λ (e : (f ≡ fault.Down) × ((h : Halt) × (n.halt ≡ Some h))). subst (EndFails pass clerk n n) (sym e.0) (no_more pass n n refl, e.1))
-    (λ (e : f ≡ fault.NoMemory). subst (EndFails pass clerk n n) (sym e) (no_more pass n n refl)) h
+    (λ (e : f ≡ fault.NoMemory). subst (EndFails pass clerk n n) (sym e) (inl (no_more pass n n refl))) h
 
 pub check_gives : {K L : Type 0} (faults : L → ℕ) (got : L → Option (List (List ℕ))) (pass : ℕ) (caller : Caller) (n : Node K) (link : L) (f : ServeFault) → ((f ≡ fault.Down) × ((h : Halt) × (n.halt ≡ Some h))) ⊎ (f ≡ fault.NoMemory)
     → Gives faults got pass caller n n link link (Err f)
@@ -132,7 +139,7 @@ check_gives faults got pass caller n link f h =
     (λ (e : f ≡ fault.NoMemory). subst (λ (x : ServeFault). Gives faults got pass caller n n link link (Err x)) (sym e) (no_more pass n n refl, refl)) h
 
 -- the server halts
-pub stops : {K : Type 0} (pass : ℕ) (deed : Deed) (h : Halt) (old mid : Node K) (spent : Bool) → mid.trace.items ≡ old.trace.items ++ (record { pass = pass; deed = deed }) ∷ []
+pub stops : {K : Type 0} (pass : ℕ) (deed : Deed) (h : Halt) (old mid : Node K) (spent : Bool) → mid.trace.items ≡ old.trace.items ++ (record { pass = pass; deed = deed; lost = false }) ∷ []
     → mid ≡ record old { trace = mid.trace; steps = old.steps + 1 } → spent ≡ spends h → Stops pass deed h old (record mid { halt = Some h; broken = not spent })
 stops {K} pass deed h old mid spent list others is = record {
   list = list;

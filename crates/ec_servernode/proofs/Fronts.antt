@@ -1,5 +1,5 @@
 -- Passes of the lock, the value that it's made with, and what is handed back.
-use Rattle.std.proofs.Common.{◌≡◌, ℕ, ◌<◌, ◌⊎◌, Bool, true, false, cond, List, [], length, Some, None, sym, refl, ap, ◌∙◌, subst, ⊎_elim, inl, arith}
+use Rattle.std.proofs.Common.{◌≡◌, ℕ, ◌<◌, ◌⊎◌, Bool, true, false, cond, List, [], length, Some, None, IfNone, sym, refl, ap, ◌∙◌, subst, ⊎_elim, inl, arith}
 use mathlib.Core.List.{IsPrefix}
 use Rattle.ec_base.specs.Limits.{clerk_count}
 use Rattle.ec_disk.specs.Disk.{Counts}
@@ -15,6 +15,7 @@ use Rattle.ec_servernode.specs.declared.state.Node.{Node}
 use Rattle.ec_servernode.specs.declared.caller.Caller.{Caller}
 use Rattle.ec_servernode.specs.declared.passes.ServerPass.{ServerPass}
 use Rattle.ec_servernode.specs.Callers.{nobody}
+use Rattle.ec_servernode.specs.Breaking.{Broken}
 use Rattle.ec_servernode.specs.Run.{number_of, caller_from, caller_by, leads, records, halted, box_from, owner, IsRun}
 use Rattle.ec_servernode.specs.Node.{queue_at, owner_at, Chain, ChainInDoubt, CountsUp, state_of, Since}
 use Rattle.ec_servernode.specs.TurnSteps.{More, RunsFrom, IsServerPass, Finished}
@@ -56,18 +57,19 @@ module _ {K : Type 0} (kept : K → Durable) (counts : K → Counts) (did breaks
   reached_run start steps r = subst (RunsFrom kept start) r.2 r.1.run
 
   -- the value that a lock is made with
-  pub begins : (n : Node K) → n.trace.items ≡ [] → n.steps ≡ 0 → n.halt ≡ None → StandsOn (kept n.keeper) n.server → length n.boxes.items ≡ clerk_count → ((c : ℕ) → owner_at n.boxes.items c ≡ None) → Since kept counts did breaks n n
-  begins n list steps halt stands sized owners = record {
+  pub begins : (n : Node K) → n.trace.items ≡ [] → n.steps ≡ 0 → n.halt ≡ None → n.broken ≡ false → StandsOn (kept n.keeper) n.server → length n.boxes.items ≡ clerk_count → ((c : ℕ) → owner_at n.boxes.items c ≡ None) → Since kept counts did breaks n n
+  begins n list steps halt up stands sized owners = record {
     run = subst (IsRun (state_of kept n) (queue_at n.boxes.items)) (sym list) (no_run (state_of kept n) (queue_at n.boxes.items));
     counted = steps ∙ sym (ap length list);
-    leads_to = λ up. ap (leads (state_of kept n)) list;
+    leads_to = λ _. ap (leads (state_of kept n)) list;
     stands = stands;
-    chain = λ up. subst (λ l. Chain did (records l) n.keeper n.keeper) (sym list) refl;
+    chain = λ _. subst (λ l. Chain did (records l) n.keeper n.keeper) (sym list) refl;
     doubt = (n.keeper, subst (λ l. Chain did (records l) n.keeper n.keeper) (sym list) refl, inl refl);
     sized = sized;
-    boxes = λ up c le. sym (ap (box_from c (queue_at n.boxes.items c)) list);
-    owners = λ up c le. owners c ∙ sym (ap (owner c) list);
+    boxes = λ _ c le. sym (ap (box_from c (queue_at n.boxes.items c)) list);
+    owners = λ _ c le. owners c ∙ sym (ap (owner c) list);
     halt_is = halt ∙ sym (ap halted list);
+    wanted = λ down. absurd (cc (sym up ∙ down));
     counted_up = subst (λ h. CountsUp h (counts n.keeper) (counts n.keeper)) (sym (ap halted list)) (no_halt_up (counts n.keeper));
   }
 
@@ -84,3 +86,8 @@ module _ {K : Type 0} (kept : K → Durable) (counts : K → Counts) (did breaks
     pub finished : (broken : Bool) → v.broken ≡ broken → Finished kept counts did breaks start steps (cond broken None (Some v.server)) v.keeper
     finished true e = finished_none
     finished false up = finished_some up
+
+    -- there is no server only where one of the steps broke it
+    pub broken_then : (broken : Bool) → v.broken ≡ broken → IfNone (cond broken None (Some v.server)) (Broken steps)
+    broken_then true e = subst Broken (sym is) (s.wanted e)
+    broken_then false up = tt

@@ -1,5 +1,5 @@
 -- One step more keeps what the value says of its list.
-use Rattle.std.proofs.Common.{◌≡◌, ◌==◌, ◌⊎◌, ℕ, ◌+◌, ◌<◌, true, false, not, cond, [], List, ◌∷◌, ◌++◌, length, drop, Option, Some, None, Result, Ok, Err, Vec, sym, ap, ◌∙◌, subst, length-append, append-nil, refl, inl, inr, ⊎_elim}
+use Rattle.std.proofs.Common.{◌≡◌, ◌==◌, ◌⊎◌, ℕ, ◌+◌, ◌<◌, Bool, true, false, not, cond, [], List, ◌∷◌, ◌++◌, length, drop, Option, Some, None, Result, Ok, Err, Vec, sym, ap, ◌∙◌, subst, length-append, append-nil, refl, inl, inr, ⊎_elim}
 use Rattle.std.specs.declared.alloc.Global.{Global}
 use Rattle.std.specs.declared.snapshot.Snapshot.{Snapshot}
 use Rattle.ec_base.specs.Limits.{clerk_count}
@@ -20,19 +20,24 @@ use Rattle.ec_server.specs.declared.fault.ServerFault.{ServerFault}
 use Rattle.ec_server.specs.declared.fault.ServerFault.TheVariants as fault
 use Rattle.ec_servernode.specs.declared.step.Halt.{Halt}
 use Rattle.ec_servernode.specs.declared.step.Deed.{Deed}
-use Rattle.ec_servernode.specs.declared.step.Deed.TheVariants.{Took, Gave, Refused, Halted, Ended, HaltedEnd}
+use Rattle.ec_servernode.specs.declared.step.Deed.TheVariants.{Took, Gave, Refused, Halted, Ended, HaltedEnd, Broke}
 use Rattle.ec_servernode.specs.declared.step.Step.{Step}
 use Rattle.ec_servernode.specs.declared.state.Node.{Node}
 use Rattle.ec_servernode.specs.Folded.{message_taken, session_ended}
 use Rattle.ec_servernode.specs.Callers.{hello_in, accepted, refusal_in, posted, IsRefusal}
+use Rattle.ec_servernode.specs.Breaking.{spends, Breaks, Broken}
 use Rattle.ec_servernode.specs.Run.{hello_of, owner_now, sender, caller_by, clerk_by, is_for, owner, put_all, for_clerk, box_after, box_from, after, leads, record_of, records, records_of, halts_of, halted, Halts, IsDeed, IsStep, IsRun}
 use Rattle.ec_servernode.specs.Node.{queue_at, owner_at, Chain, Doubt, CountsUp, state_of, Since, Keeps}
-use Rattle.ec_servernode.specs.Steps.{Grew, TookAs, EndedAs, Halts as Stops, RefusesMessage, halt_in, spends}
-use Rattle.ec_servernode.proofs.Runs.{run_push, leads-push, box-push, owner-push, halted-push, chain-push}
+use Rattle.ec_servernode.specs.Steps.{Grew, TookAs, EndedAs, Halts as Stops, Fell, RefusesMessage, halt_in}
+use Rattle.ec_servernode.proofs.Runs.{run_push, broken-last, leads-push, box-push, owner-push, halted-push, chain-push}
 use Rattle.ec_servernode.proofs.Counts.{then_up}
 use Rattle.ec_servernode.proofs.Ends.{fault_up, halts_by, boxes_same}
 use Rattle.ec_base.specs.Lists.{first_of}
 use Rattle.ec_link.proofs.HappeningsLemmas.{each-push}
+
+not_true : (b : Bool) → not b ≡ true → b ≡ false
+not_true true e = absurd (cc e)
+not_true false e = refl
 
 module _ {K : Type 0} (kept : K → Durable) (counts : K → Counts) (did breaks : K → Record → K → Type 0) where
   -- The server did this, and committed this record.
@@ -45,6 +50,7 @@ module _ {K : Type 0} (kept : K → Durable) (counts : K → Counts) (did breaks
     pub box_is : (k : ℕ) (q : List Msg) → box_after k q deed ≡ put_all q (for_clerk k sent)
     pub hello_is : hello_of deed ≡ hello
     pub no_halt : halts_of deed ≡ []
+    pub breaking : (lost : Bool) → lost ≡ true → Breaks deed lost
     pub did_so : Did did rec old.keeper keeper
     pub counted : CountsUp None (counts old.keeper) (counts keeper)
     pub stands : StandsOn (kept keeper) server
@@ -54,7 +60,7 @@ module _ {K : Type 0} (kept : K → Durable) (counts : K → Counts) (did breaks
   acted pass deed hello sent rec old new server keeper t g first s =
       let xs = old.trace.items in
       let s0 = state_of kept first in
-      let x : Step = record { pass = pass; deed = deed } in
+      let x : Step = record { pass = pass; deed = deed; lost = new.broken } in
       let lead : leads s0 xs ≡ state_of kept old = s.leads_to t.up in
       let none : halted xs ≡ None = sym s.halt_is ∙ t.none in
       let is_step : IsStep s0 (queue_at first.boxes.items) xs x = (none, t.is_deed s0 (queue_at first.boxes.items) lead) in
@@ -71,10 +77,11 @@ module _ {K : Type 0} (kept : K → Durable) (counts : K → Counts) (did breaks
             ∙ sym (ap (box_from k (queue_at first.boxes.items k)) g.list ∙ box-push k (queue_at first.boxes.items k) xs x)));
         owners = λ up k le. g.owners k le ∙ (ap (λ o. owner_now k hello pass o) (s.owners t.up k le) ∙ (ap (λ h. owner_now k h pass (owner k xs)) (sym t.hello_is) ∙ sym (ap (owner k) g.list ∙ owner-push k None xs x)));
         halt_is = g.halt_is ∙ (t.none ∙ sym halted_now);
+        wanted = λ down. subst Broken (sym g.list) (broken-last xs x (t.breaking new.broken down));
         counted_up = up_is first s;
       } where
         x_is : Step
-        x_is = record { pass = pass; deed = deed }
+        x_is = record { pass = pass; deed = deed; lost = new.broken }
 
         none_before : (first : Node K) → Since kept counts did breaks first old → halted old.trace.items ≡ None
         none_before first s = sym s.halt_is ∙ t.none
@@ -127,6 +134,7 @@ module _ {K : Type 0} (kept : K → Durable) (counts : K → Counts) (did breaks
         box_is = λ k q. ap (λ (y : Served). put_all q (for_clerk k (posted y.sent))) g.copy_is;
         hello_is = ap (λ y. accepted (refusal_in g.copy.value.sent) (hello_in y)) g.shot_is ∙ ap (λ (y : Served). accepted (refusal_in y.sent) (hello_in m)) g.copy_is;
         no_halt = refl;
+        breaking = λ lost e. e;
         did_so = t.did_so;
         counted = t.counted;
         stands = t.stands;
@@ -160,6 +168,7 @@ module _ {K : Type 0} (kept : K → Durable) (counts : K → Counts) (did breaks
         box_is = λ k q. ap (λ (y : Served). put_all q (for_clerk k y.sent)) g.copy_is;
         hello_is = refl;
         no_halt = refl;
+        breaking = λ lost e. e;
         did_so = t.did_so;
         counted = t.counted;
         stands = t.stands;
@@ -179,6 +188,7 @@ module _ {K : Type 0} (kept : K → Durable) (counts : K → Counts) (did breaks
     pub box_is : (k : ℕ) (q : List Msg) → box_after k q deed ≡ q
     pub no_hello : hello_of deed ≡ None
     pub halts_are : halts_of deed ≡ h ∷ []
+    pub breaking : spends h ≡ false → Breaks deed false
     pub same : not (spends h) ≡ false → (standing (kept keeper) server ≡ state_of kept old) × (keeper ≡ old.keeper)
     pub counted : CountsUp (Some h) (counts old.keeper) (counts keeper)
     pub stands : StandsOn (kept keeper) server
@@ -189,7 +199,7 @@ module _ {K : Type 0} (kept : K → Durable) (counts : K → Counts) (did breaks
   stopped pass deed h old new server keeper t g first s =
       let xs = old.trace.items in
       let s0 = state_of kept first in
-      let x : Step = record { pass = pass; deed = deed } in
+      let x : Step = record { pass = pass; deed = deed; lost = false } in
       let lead : leads s0 xs ≡ state_of kept old = s.leads_to t.up in
       let none : halted xs ≡ None = sym s.halt_is ∙ t.none in
       let is_step : IsStep s0 (queue_at first.boxes.items) xs x = (none, t.is_deed s0 (queue_at first.boxes.items) lead) in
@@ -216,6 +226,7 @@ module _ {K : Type 0} (kept : K → Durable) (counts : K → Counts) (did breaks
         boxes = λ e k le. ap (λ b. queue_at b.items k) boxes_are ∙ (s.boxes t.up k le ∙ (sym (t.box_is k (box_from k (queue_at first.boxes.items k) xs)) ∙ sym (ap (box_from k (queue_at first.boxes.items k)) g.list ∙ box-push k (queue_at first.boxes.items k) xs x)));
         owners = λ e k le. ap (λ b. owner_at b.items k) boxes_are ∙ (s.owners t.up k le ∙ (ap (λ o. owner_now k o pass (owner k xs)) (sym t.no_hello) ∙ sym (ap (owner k) g.list ∙ owner-push k None xs x)));
         halt_is = ap (λ n. n.halt) g.others ∙ sym halted_now;
+        wanted = λ down. subst Broken (sym g.list) (broken-last xs x (t.breaking (not_true (spends h) (sym (ap (λ n. n.broken) g.others) ∙ down))));
         counted_up = subst (λ o. CountsUp o (counts first.keeper) (counts new.keeper)) (sym halted_now) (subst (λ k. CountsUp (Some h) (counts first.keeper) (counts k)) (sym keeper_is)
             (then_up (Some h) (counts first.keeper) (counts old.keeper) (counts keeper) (subst (λ o. CountsUp o (counts first.keeper) (counts old.keeper)) none s.counted_up) t.counted));
       }
@@ -246,6 +257,7 @@ module _ {K : Type 0} (kept : K → Durable) (counts : K → Counts) (did breaks
         box_is = λ k q. refl;
         no_hello = refl;
         halts_are = refl;
+        breaking = λ e. e;
         same = by.1;
         counted = fault_up r f h (counts old.keeper) (counts keeper) is e counted;
         stands = stands;
@@ -267,6 +279,7 @@ module _ {K : Type 0} (kept : K → Durable) (counts : K → Counts) (did breaks
         box_is = λ k q. refl;
         no_hello = refl;
         halts_are = refl;
+        breaking = λ e. e;
         same = by.1;
         counted = fault_up r f h (counts old.keeper) (counts keeper) is e counted;
         stands = stands;
@@ -274,26 +287,32 @@ module _ {K : Type 0} (kept : K → Durable) (counts : K → Counts) (did breaks
       }
 
   -- memory was wanting in the server's step
-  pub broke : (old new : Node K) (server : Server) (keeper : K) → old.halt ≡ None → CountsUp None (counts old.keeper) (counts keeper) → StandsOn (kept keeper) server → old.broken ≡ false → Doubt did breaks old.keeper keeper
-      → new ≡ record old { server = server; keeper = keeper; broken = true } → Keeps kept counts did breaks old new
-  broke old new server keeper no_halt counted stands was_up doubt e first s =
-      let list : new.trace.items ≡ old.trace.items = ap (λ n. n.trace.items) e in
-      let keeper_is : new.keeper ≡ keeper = ap (λ n. n.keeper) e in
-      let server_is : new.server ≡ server = ap (λ n. n.server) e in
-      let none : halted old.trace.items ≡ None = sym s.halt_is ∙ no_halt in
-      let down : new.broken ≡ true = ap (λ n. n.broken) e in
+  pub broke : (pass : ℕ) (old new : Node K) (server : Server) (keeper : K) → old.halt ≡ None → CountsUp None (counts old.keeper) (counts keeper) → StandsOn (kept keeper) server → old.broken ≡ false → Doubt did breaks old.keeper keeper
+      → Fell pass (record old { server = server; keeper = keeper }) new → Keeps kept counts did breaks old new
+  broke pass old new server keeper no_halt counted stands was_up doubt f first s =
+      let xs = old.trace.items in
+      let s0 = state_of kept first in
+      let x : Step = record { pass = pass; deed = Broke; lost = true } in
+      let keeper_is : new.keeper ≡ keeper = ap (λ n. n.keeper) f.others in
+      let server_is : new.server ≡ server = ap (λ n. n.server) f.others in
+      let none : halted xs ≡ None = sym s.halt_is ∙ no_halt in
+      let before = s.counted in
+      let down : new.broken ≡ true = ap (λ n. n.broken) f.others in
+      let halted_now : halted new.trace.items ≡ None = ap halted f.list ∙ halted-push xs x none in
+      let records_are : records new.trace.items ≡ records xs = ap records f.list ∙ (each-push (λ (y : Step). records_of y.deed) xs x ∙ append-nil (records xs)) in
       record {
-        run = subst (IsRun (state_of kept first) (queue_at first.boxes.items)) (sym list) s.run;
-        counted = ap (λ n. n.steps) e ∙ (s.counted ∙ sym (ap length list));
+        run = subst (IsRun s0 (queue_at first.boxes.items)) (sym f.list) (run_push s0 (queue_at first.boxes.items) xs x s.run (none, tt));
+        counted = ap (λ n. n.steps) f.others ∙ (ap (λ n. n + 1) before ∙ sym (ap length f.list ∙ length-append xs (x ∷ [])));
         leads_to = λ up. absurd (two (sym down ∙ up));
         stands = subst (λ k. StandsOn (kept k) new.server) (sym keeper_is) (subst (StandsOn (kept keeper)) (sym server_is) stands);
         chain = λ up. absurd (two (sym down ∙ up));
-        doubt = (old.keeper, subst (λ l. Chain did (records l) first.keeper old.keeper) (sym list) (s.chain was_up), subst (Doubt did breaks old.keeper) (sym keeper_is) doubt);
-        sized = ap (λ n. length n.boxes.items) e ∙ s.sized;
+        doubt = (old.keeper, subst (λ l. Chain did l first.keeper old.keeper) (sym records_are) (s.chain was_up), subst (Doubt did breaks old.keeper) (sym keeper_is) doubt);
+        sized = ap (λ n. length n.boxes.items) f.others ∙ s.sized;
         boxes = λ up. absurd (two (sym down ∙ up));
         owners = λ up. absurd (two (sym down ∙ up));
-        halt_is = ap (λ n. n.halt) e ∙ (s.halt_is ∙ sym (ap halted list));
-        counted_up = subst (λ o. CountsUp o (counts first.keeper) (counts new.keeper)) (sym (ap halted list ∙ none)) (subst (λ k. CountsUp None (counts first.keeper) (counts k)) (sym keeper_is)
+        halt_is = ap (λ n. n.halt) f.others ∙ (no_halt ∙ sym halted_now);
+        wanted = λ e. subst Broken (sym f.list) (broken-last xs x tt);
+        counted_up = subst (λ o. CountsUp o (counts first.keeper) (counts new.keeper)) (sym halted_now) (subst (λ k. CountsUp None (counts first.keeper) (counts k)) (sym keeper_is)
             (then_up None (counts first.keeper) (counts old.keeper) (counts keeper) (subst (λ o. CountsUp o (counts first.keeper) (counts old.keeper)) none s.counted_up) counted));
       } where
         two : true ≡ false → ⊥
@@ -311,14 +330,14 @@ module _ {K : Type 0} (kept : K → Durable) (counts : K → Counts) (did breaks
     pub box_is : (k : ℕ) → queue_at new.boxes.items k ≡ box_after k (queue_at old.boxes.items k) deed
     pub owners : (k : ℕ) → owner_at new.boxes.items k ≡ owner_at old.boxes.items k
     pub sized : length new.boxes.items ≡ clerk_count
-    pub list : new.trace.items ≡ old.trace.items ++ (record { pass = pass; deed = deed }) ∷ []
+    pub list : new.trace.items ≡ old.trace.items ++ (record { pass = pass; deed = deed; lost = false }) ∷ []
     pub others : new ≡ record old { boxes = new.boxes; trace = new.trace; steps = old.steps + 1 }
 
   pub gave : (pass : ℕ) (deed : Deed) (old new : Node K) → Giving pass deed old new → Keeps kept counts did breaks old new
   gave pass deed old new g first s =
       let xs = old.trace.items in
       let s0 = state_of kept first in
-      let x : Step = record { pass = pass; deed = deed } in
+      let x : Step = record { pass = pass; deed = deed; lost = false } in
       let none : halted xs ≡ None = sym s.halt_is ∙ g.none in
       let is_step : IsStep s0 (queue_at first.boxes.items) xs x = (none, g.is_deed first s) in
       let counted = s.counted in
@@ -337,6 +356,7 @@ module _ {K : Type 0} (kept : K → Durable) (counts : K → Counts) (did breaks
         boxes = λ e k le. g.box_is k ∙ (ap (λ q. box_after k q deed) (s.boxes g.up k le) ∙ sym (ap (box_from k (queue_at first.boxes.items k)) g.list ∙ box-push k (queue_at first.boxes.items k) xs x));
         owners = λ e k le. g.owners k ∙ (s.owners g.up k le ∙ (ap (λ o. owner_now k o pass (owner k xs)) (sym g.no_hello) ∙ sym (ap (owner k) g.list ∙ owner-push k None xs x)));
         halt_is = ap (λ n. n.halt) g.others ∙ (g.none ∙ sym halted_now);
+        wanted = λ down. absurd (cc (sym down ∙ (ap (λ n. n.broken) g.others ∙ g.up)));
         counted_up = subst (λ o. CountsUp o (counts first.keeper) (counts new.keeper)) (sym halted_now) (subst (λ k. CountsUp None (counts first.keeper) (counts k)) (sym keeper_is)
             (subst (λ o. CountsUp o (counts first.keeper) (counts old.keeper)) none s.counted_up));
       }
@@ -344,7 +364,7 @@ module _ {K : Type 0} (kept : K → Durable) (counts : K → Counts) (did breaks
   -- the first message of an outbox
   pub giving_next : (pass c : ℕ) (m : Snapshot Msg) (old new : Node K) → old.broken ≡ false → old.halt ≡ None → c < clerk_count → (caller_by pass old.trace.items).refusal ≡ None → c ≡ clerk_by pass old.trace.items → is_for pass (owner_at old.boxes.items c) ≡ true → first_of (queue_at old.boxes.items c) ≡ Some m.value
       → ((k : ℕ) → queue_at new.boxes.items k ≡ cond (c == k) (drop 1 (queue_at old.boxes.items k)) (queue_at old.boxes.items k)) → ((k : ℕ) → owner_at new.boxes.items k ≡ owner_at old.boxes.items k) → length new.boxes.items ≡ clerk_count
-      → new.trace.items ≡ old.trace.items ++ (record { pass = pass; deed = Gave c m }) ∷ [] → new ≡ record old { boxes = new.boxes; trace = new.trace; steps = old.steps + 1 } → Giving pass (Gave c m) old new
+      → new.trace.items ≡ old.trace.items ++ (record { pass = pass; deed = Gave c m; lost = false }) ∷ [] → new ≡ record old { boxes = new.boxes; trace = new.trace; steps = old.steps + 1 } → Giving pass (Gave c m) old new
   giving_next pass c m old new up none below no_refusal from mine next dropped owners sized list others = record {
     up = up;
     none = none;
@@ -362,7 +382,7 @@ module _ {K : Type 0} (kept : K → Durable) (counts : K → Counts) (did breaks
 
   -- a refusal
   pub giving_refusal : (pass : ℕ) (m : Snapshot Msg) (old new : Node K) → old.broken ≡ false → old.halt ≡ None → length old.boxes.items ≡ clerk_count → IsRefusal (caller_by pass old.trace.items).refusal m.value
-      → new.trace.items ≡ old.trace.items ++ (record { pass = pass; deed = Refused m }) ∷ [] → new ≡ record old { trace = new.trace; steps = old.steps + 1 } → Giving pass (Refused m) old new
+      → new.trace.items ≡ old.trace.items ++ (record { pass = pass; deed = Refused m; lost = false }) ∷ [] → new ≡ record old { trace = new.trace; steps = old.steps + 1 } → Giving pass (Refused m) old new
   giving_refusal pass m old new up none sized is list others =
       let same : new.boxes ≡ old.boxes = ap (λ n. n.boxes) others in
       record {

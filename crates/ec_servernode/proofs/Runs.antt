@@ -1,11 +1,12 @@
 -- A run, with one step more.
-use Rattle.std.proofs.Common.{◌≡◌, ℕ, List, [], ◌∷◌, ◌++◌, Option, Some, None, refl, ap, sym, ◌∙◌, subst, ⊎_elim, append-nil}
+use Rattle.std.proofs.Common.{◌≡◌, ℕ, List, [], ◌∷◌, ◌++◌, Option, Some, None, refl, ap, sym, ◌∙◌, subst, inl, inr, ⊎_elim, append-nil}
 use Rattle.ec_wire.specs.declared.msg.Msg.{Msg}
 use Rattle.ec_durable.specs.declared.record.Record.{Record}
 use Rattle.ec_protocol.specs.declared.server.Server.{Server}
 use Rattle.ec_server.specs.Keepers.{Did}
 use Rattle.ec_lock.specs.Steps.{of}
 use Rattle.ec_servernode.specs.declared.step.Step.{Step}
+use Rattle.ec_servernode.specs.Breaking.{Breaks, Broken}
 use Rattle.ec_servernode.specs.Run.{number_of, caller_after, caller_from, caller_by, owner_after, owner_from, box_after, box_from, after, leads, record_of, halts_of, halted, IsStep, IsRun}
 use Rattle.ec_servernode.specs.declared.caller.Caller.{Caller}
 use Rattle.ec_servernode.specs.Callers.{nobody}
@@ -25,6 +26,10 @@ run_push s boxes xs x run is before y rest e =
 pub no_run : (s : Server) (boxes : ℕ → List Msg) → IsRun s boxes []
 no_run s boxes [] y rest e = absurd (cc e)
 no_run s boxes (x ∷ before) y rest e = absurd (cc e)
+
+pub broken-last : (xs : List Step) (x : Step) → Breaks x.deed x.lost → Broken (xs ++ x ∷ [])
+broken-last [] x b = inl b
+broken-last (y ∷ xs) x b = inr (broken-last xs x b)
 
 pub leads-push : (s : Server) (xs : List Step) (x : Step) → leads s (xs ++ x ∷ []) ≡ after (leads s xs) x.deed
 leads-push s [] x = refl

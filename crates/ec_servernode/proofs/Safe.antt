@@ -14,7 +14,7 @@ use Rattle.ec_machine_laws.proofs.OfAppliedOnce.Steps.{take-safe, end-safe, step
 use Rattle.ec_machine_laws.proofs.OfAppliedOnce.Walk.{Led, take-goes, end-goes}
 use Rattle.ec_servernode.specs.declared.state.Node.{Node}
 use Rattle.ec_servernode.specs.declared.step.Deed.{Deed}
-use Rattle.ec_servernode.specs.declared.step.Deed.TheVariants.{Took, Gave, Refused, Halted, Ended, HaltedEnd}
+use Rattle.ec_servernode.specs.declared.step.Deed.TheVariants.{Took, Gave, Refused, Halted, Ended, HaltedEnd, Broke}
 use Rattle.ec_servernode.specs.declared.step.Step.{Step}
 use Rattle.ec_servernode.specs.Folded.{message_taken, session_ended as ended}
 use Rattle.ec_servernode.specs.Node.{state_of, queue_at}
@@ -45,6 +45,7 @@ on-deed s boxes pass before (Gave c m) deed h = (h, refl)
 on-deed s boxes pass before (Refused m) deed h = (h, refl)
 on-deed s boxes pass before (Halted c bytes m halt) deed h = (h, refl)
 on-deed s boxes pass before (HaltedEnd c halt) deed h = (h, refl)
+on-deed s boxes pass before Broke deed h = (h, refl)
 on-deed s boxes pass before (Ended c served) deed h =
     let v = leads s before in
     let goes = end-goes c v (record { sound = h.tokens; held = h.wants }) in

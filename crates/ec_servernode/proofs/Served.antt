@@ -21,6 +21,7 @@ use Rattle.ec_lock.specs.Steps.{of}
 use Rattle.ec_lock.specs.declared.types.Pass.{Pass}
 use Rattle.ec_lock.specs.declared.types.TracedLock.{TracedLock}
 use Rattle.ec_servernode.specs.declared.step.Halt.{Halt}
+use Rattle.ec_servernode.specs.declared.step.Deed.TheVariants.{Broke}
 use Rattle.ec_servernode.specs.declared.step.Step.{Step}
 use Rattle.ec_servernode.specs.declared.state.Node.{Node}
 use Rattle.ec_servernode.specs.declared.state.Told.{Told}
@@ -34,10 +35,13 @@ use Rattle.ec_servernode.specs.declared.shared.Turned.TheVariants as turned
 use Rattle.ec_servernode.specs.Run.{number_of, is_for, owner, box_from, halted, leads, caller_from, caller_by}
 use Rattle.ec_servernode.specs.Node.{queue_at, owner_at, state_of, Since}
 use Rattle.ec_servernode.specs.Callers.{nobody}
-use Rattle.ec_servernode.specs.TurnSteps.{More, Takes, EndsTurn, Gives, peer_of, EndsSession, Adds, HearFails, TakesMessage, Looked, Hears, HasNone, HasNext, NextFails, GivesNext, GaveBody, GaveNone, WasClear, ServeFails, Serves, RunsFrom, IsServerPass}
+use Rattle.ec_servernode.specs.TurnSteps.{More, Falls, Takes, EndsTurn, Gives, peer_of, EndsSession, Adds, AddsFall, HearFails, TakesMessage, Looked, Hears, HasNone, HasNext, NextFails, GivesNext, GaveBody, GaveNone, WasClear, ServeFails, Serves, RunsFrom, IsServerPass}
 use Rattle.ec_servernode.proofs.Lists.{of_others, none_more}
 use Rattle.ec_base.specs.Lists.{first_of}
 use Rattle.ec_lock.proofs.StepsLemmas.{of-append}
+
+fall_more : {K : Type 0} (pass : ℕ) (v w : Node K) → Falls pass v w → (more : List Step) × More pass v w more
+fall_more pass v w t = ⊎_elim (λ (a : More pass v w []). ([], a)) (λ (a : (x : Step) × More pass v w (x ∷ []) × (x.deed ≡ Broke)). (a.0 ∷ [], a.1)) t
 
 -- only steps of the pass were added
 pub takes_more : {K : Type 0} (pass : ℕ) (bytes : List ℕ) (v w : Node K) (r : Result Told ServeFault) → Takes pass bytes v w r → (more : List Step) × More pass v w more
@@ -46,7 +50,7 @@ takes_more pass bytes v w (Err fault.DiskFailed) t = (t.0 ∷ [], t.1)
 takes_more pass bytes v w (Err fault.DiskStopped) t = (t.0 ∷ [], t.1)
 takes_more pass bytes v w (Err (fault.Spent n)) t = (t.0 ∷ [], t.1)
 takes_more pass bytes v w (Err fault.Down) t = ([], t.0)
-takes_more pass bytes v w (Err fault.NoMemory) t = ([], t)
+takes_more pass bytes v w (Err fault.NoMemory) t = fall_more pass v w t
 takes_more pass bytes v w (Err fault.Net) t = absurd t
 takes_more pass bytes v w (Err (fault.Peer p)) t = absurd t
 takes_more pass bytes v w (Err (fault.Long n)) t = absurd t
@@ -57,7 +61,7 @@ ends_more pass clerk v w (Err fault.DiskFailed) t = (t.0 ∷ [], t.1)
 ends_more pass clerk v w (Err fault.DiskStopped) t = (t.0 ∷ [], t.1)
 ends_more pass clerk v w (Err (fault.Spent n)) t = (t.0 ∷ [], t.1)
 ends_more pass clerk v w (Err fault.Down) t = ([], t.0)
-ends_more pass clerk v w (Err fault.NoMemory) t = ([], t)
+ends_more pass clerk v w (Err fault.NoMemory) t = fall_more pass v w t
 ends_more pass clerk v w (Err fault.Net) t = absurd t
 ends_more pass clerk v w (Err (fault.Peer p)) t = absurd t
 ends_more pass clerk v w (Err (fault.Long n)) t = absurd t
@@ -101,6 +105,9 @@ module _ {K : Type 0} (pass : ℕ) (before after : List Step) (v w : Node K) (la
     m.1,
   )
 
+  adds_fall : Falls pass v w → AddsFall pass before after
+  adds_fall t = ⊎_elim (λ (a : More pass v w []). inl (adds [] a)) (λ (a : (x : Step) × More pass v w (x ∷ []) × (x.deed ≡ Broke)). inr (a.0, adds (a.0 ∷ []) a.1, a.2)) t
+
   halted_is : (h : Option Halt) → w.halt ≡ h → halted after ≡ h
   halted_is h e = sym (halt_is ∙ ap halted is) ∙ e
 
@@ -117,7 +124,7 @@ module _ {K : Type 0} (pass : ℕ) (before after : List Step) (v w : Node K) (la
   takes bytes (Err fault.DiskStopped) t = (t.0, adds (t.0 ∷ []) t.1, t.2)
   takes bytes (Err (fault.Spent n)) t = (t.0, adds (t.0 ∷ []) t.1, t.2)
   takes bytes (Err fault.Down) t = (adds [] t.0, (t.1.0, halted_is (Some t.1.0) t.1.1))
-  takes bytes (Err fault.NoMemory) t = adds [] t
+  takes bytes (Err fault.NoMemory) t = adds_fall t
   takes bytes (Err fault.Net) t = absurd t
   takes bytes (Err (fault.Peer p)) t = absurd t
   takes bytes (Err (fault.Long n)) t = absurd t
@@ -128,7 +135,7 @@ module _ {K : Type 0} (pass : ℕ) (before after : List Step) (v w : Node K) (la
   ends clerk (Err fault.DiskStopped) t = (t.0, adds (t.0 ∷ []) t.1, t.2)
   ends clerk (Err (fault.Spent n)) t = (t.0, adds (t.0 ∷ []) t.1, t.2)
   ends clerk (Err fault.Down) t = (adds [] t.0, (t.1.0, halted_is (Some t.1.0) t.1.1))
-  ends clerk (Err fault.NoMemory) t = adds [] t
+  ends clerk (Err fault.NoMemory) t = adds_fall t
   ends clerk (Err fault.Net) t = absurd t
   ends clerk (Err (fault.Peer p)) t = absurd t
   ends clerk (Err (fault.Long n)) t = absurd t
@@ -187,7 +194,7 @@ refused pass bytes why old new r is h =
     (λ (e : (r ≡ Err fault.Down) × ((why : Halt) × (halted new ≡ Some why))). subst (Hears pass bytes old new) (sym e.0) (h.0, e.1)) h.1
   where
     by : (w : WireFault) → ReadsMessage (Err w) (said bytes) → Adds pass old new [] → halted new ≡ None → HearFails pass bytes old new (peer_of w)
-    by wire.NoMemory is a none = a
+    by wire.NoMemory is a none = inl a
     by (wire.Short p) is a none = (a, is, none)
     by (wire.Kind b) is a none = (a, is, none)
     by (wire.Field p) is a none = (a, is, none)
@@ -238,7 +245,7 @@ module _ {L : Type 0} (faults closes : L → ℕ) (given : L → Option (List He
     next_fails : (f : ServeFault) → NextFails faults got_by boxes pass caller old new mid after f × (got_by after ≡ got_by mid) → ServeFails faults closes given got_by held boxes pass caller old new before after f
     next_fails fault.Net h = let more = h.0.1 in (h.0.0, omega arith, h.1 ∙ got_same, inr (is_none, h.0.2), h.0.3)
     next_fails fault.Down h = (h.0.0, h.0.1, h.1 ∙ got_same)
-    next_fails fault.NoMemory h = (h.0, h.1 ∙ got_same)
+    next_fails fault.NoMemory h = (inl h.0, h.1 ∙ got_same)
     next_fails fault.DiskFailed h = absurd h.0
     next_fails fault.DiskStopped h = absurd h.0
     next_fails (fault.Spent n) h = absurd h.0

@@ -1,6 +1,7 @@
 pub mod Callers
 pub mod Folded
 pub mod Run
+pub mod Breaking
 pub mod OwnSteps
 pub mod Node
 pub mod Steps

@@ -1,5 +1,5 @@
 -- What the value behind the lock says of its list of steps.
-use Rattle.std.specs.Prelude.{◌≡◌, ℕ, ◌≤◌, ◌<◌, ◌⊎◌, zero, suc, false, List, [], ◌∷◌, length, Option, Some, None}
+use Rattle.std.specs.Prelude.{◌≡◌, ℕ, ◌≤◌, ◌<◌, ◌⊎◌, zero, suc, true, false, List, [], ◌∷◌, length, Option, Some, None}
 use Rattle.ec_base.specs.Limits.{clerk_count}
 use Rattle.ec_base.specs.Outside.{Rose}
 use Rattle.ec_disk.specs.Disk.{Counts}
@@ -12,6 +12,7 @@ use Rattle.ec_servernode.specs.declared.step.Halt.{Halt}
 use Rattle.ec_servernode.specs.declared.step.Halt.TheVariants as halt
 use Rattle.ec_servernode.specs.declared.state.Outbox.{Outbox}
 use Rattle.ec_servernode.specs.declared.state.Node.{Node}
+use Rattle.ec_servernode.specs.Breaking.{Broken}
 use Rattle.ec_servernode.specs.Run.{IsRun, leads, records, halted, box_from, owner}
 
 -- a clerk's outbox, and whose it is
@@ -62,6 +63,7 @@ module _ {K : Type 0} (kept : K → Durable) (counts : K → Counts) (did breaks
     pub boxes : now.broken ≡ false → (c : ℕ) → c < clerk_count → queue_at now.boxes.items c ≡ box_from c (queue_at first.boxes.items c) now.trace.items
     pub owners : now.broken ≡ false → (c : ℕ) → c < clerk_count → owner_at now.boxes.items c ≡ owner c now.trace.items
     pub halt_is : now.halt ≡ halted now.trace.items
+    pub wanted : now.broken ≡ true → Broken now.trace.items
     pub counted_up : CountsUp (halted now.trace.items) (counts first.keeper) (counts now.keeper)
 
   abbrev pub Keeps : Node K → Node K → Type 0

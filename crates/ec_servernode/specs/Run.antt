@@ -11,7 +11,7 @@ use Rattle.ec_lock.specs.Steps.{of}
 use Rattle.ec_servernode.specs.declared.step.Halt.{Halt}
 use Rattle.ec_servernode.specs.declared.step.Halt.TheVariants as halt
 use Rattle.ec_servernode.specs.declared.step.Deed.{Deed}
-use Rattle.ec_servernode.specs.declared.step.Deed.TheVariants.{Took, Gave, Refused, Halted, Ended, HaltedEnd}
+use Rattle.ec_servernode.specs.declared.step.Deed.TheVariants.{Took, Gave, Refused, Halted, Ended, HaltedEnd, Broke}
 use Rattle.ec_servernode.specs.declared.step.Step.{Step}
 use Rattle.ec_servernode.specs.declared.caller.Caller.{Caller}
 use Rattle.ec_servernode.specs.Callers.{hello_in, accepted, refusal_in, posted, nobody, behind, refusal_sent, IsRefusal}
@@ -159,6 +159,7 @@ IsDeed s boxes pass before (Refused m) = IsRefusal (caller_by pass before).refus
 IsDeed s boxes pass before (Halted c bytes m h) = (said bytes.value.items ≡ Ok m.value) × (c ≡ sender m.value (clerk_by pass before)) × Halts h (message_taken c m.value (leads s before))
 IsDeed s boxes pass before (Ended c served) = Came (session_ended c (leads s before)) served.value
 IsDeed s boxes pass before (HaltedEnd c h) = Halts h (session_ended c (leads s before))
+IsDeed s boxes pass before Broke = Unit {0}
 
 -- the step comes behind these, among which is no halt
 abbrev pub IsStep : Server → (ℕ → List Msg) → List Step → Step → Type 0

@@ -12,7 +12,7 @@ use Rattle.ec_server.specs.declared.fault.ServerFault.TheVariants.{DiskFailed, D
 use Rattle.ec_servernode.specs.declared.step.Halt.{Halt}
 use Rattle.ec_servernode.specs.declared.step.Halt.TheVariants as halt
 use Rattle.ec_servernode.specs.declared.step.Deed.{Deed}
-use Rattle.ec_servernode.specs.declared.step.Deed.TheVariants.{Took, Ended}
+use Rattle.ec_servernode.specs.declared.step.Deed.TheVariants.{Took, Ended, Broke}
 use Rattle.ec_servernode.specs.declared.caller.Caller.{Caller}
 use Rattle.ec_servernode.specs.declared.fault.ServeFault.{ServeFault}
 use Rattle.ec_servernode.specs.declared.shared.Turned.{Turned}
@@ -22,6 +22,7 @@ use Rattle.ec_servernode.specs.declared.state.Told.{Told}
 use Rattle.ec_servernode.specs.Callers.{hello_in, accepted, refusal_in, behind, refusal_sent}
 use Rattle.ec_servernode.specs.Callers.{posted as posted_of}
 use Rattle.ec_servernode.specs.declared.state.Node.{Node}
+use Rattle.ec_servernode.specs.Breaking.{spends}
 use Rattle.ec_servernode.specs.Run.{owner_now, put_all, for_clerk}
 use Rattle.ec_servernode.specs.Node.{queue_at, owner_at}
 
@@ -38,14 +39,9 @@ halt_in DiskStopped = Some halt.DiskStopped
 halt_in (Spent n) = Some (halt.Spent n)
 halt_in NoMemory = None
 
-abbrev pub spends : Halt → Bool
-spends halt.DiskFailed = false
-spends halt.DiskStopped = false
-spends (halt.Spent n) = true
-
 -- A step was added, and what is sent by it went to the outboxes, unless memory was wanting for that. A Hello makes its clerk's outbox this pass's.
 pub record Grew {K : Type 0} (pass : ℕ) (deed : Deed) (hello : Option ℕ) (sent : List (ℕ × Msg)) (old new : Node K) : Type 0 where
-  pub list : new.trace.items ≡ old.trace.items ++ (record { pass = pass; deed = deed }) ∷ []
+  pub list : new.trace.items ≡ old.trace.items ++ (record { pass = pass; deed = deed; lost = new.broken }) ∷ []
   pub steps : new.steps ≡ old.steps + 1
   pub server : new.server ≡ old.server
   pub keeper : new.keeper ≡ old.keeper
@@ -70,8 +66,13 @@ pub record EndedAs {K : Type 0} (pass c : ℕ) (served : Served) (old new : Node
 
 -- the server halts
 pub record Halts {K : Type 0} (pass : ℕ) (deed : Deed) (h : Halt) (old new : Node K) : Type 0 where
-  pub list : new.trace.items ≡ old.trace.items ++ (record { pass = pass; deed = deed }) ∷ []
+  pub list : new.trace.items ≡ old.trace.items ++ (record { pass = pass; deed = deed; lost = false }) ∷ []
   pub others : new ≡ record old { trace = new.trace; steps = old.steps + 1; halt = Some h; broken = not (spends h) }
+
+-- memory was wanting for a step
+pub record Fell {K : Type 0} (pass : ℕ) (old new : Node K) : Type 0 where
+  pub list : new.trace.items ≡ old.trace.items ++ (record { pass = pass; deed = Broke; lost = true }) ∷ []
+  pub others : new ≡ record old { trace = new.trace; steps = old.steps + 1; broken = true }
 
 -- What a turn makes of the other end of its link.
 

@@ -21,7 +21,7 @@ use Rattle.ec_lock.specs.declared.types.TracedLock.{TracedLock}
 use Rattle.ec_servernode.specs.declared.step.Halt.{Halt}
 use Rattle.ec_servernode.specs.declared.step.Halt.TheVariants as halt
 use Rattle.ec_servernode.specs.declared.step.Deed.{Deed}
-use Rattle.ec_servernode.specs.declared.step.Deed.TheVariants.{Took, Gave, Refused, Halted, Ended, HaltedEnd}
+use Rattle.ec_servernode.specs.declared.step.Deed.TheVariants.{Took, Gave, Refused, Halted, Ended, HaltedEnd, Broke}
 use Rattle.ec_servernode.specs.declared.step.Step.{Step}
 use Rattle.ec_servernode.specs.declared.state.Node.{Node}
 use Rattle.ec_servernode.specs.declared.state.Told.{Told}
@@ -85,13 +85,17 @@ IsHaltedEnd clerk why _ = ⊥
 abbrev pub More : {K : Type 0} → ℕ → Node K → Node K → List Step → Type 0
 More pass old new more = (new.trace.items ≡ old.trace.items ++ more) × By pass more
 
+-- Memory was wanting. A mark says so where it was wanting for the server's step.
+abbrev pub Falls : {K : Type 0} → ℕ → Node K → Node K → Type 0
+Falls pass old new = More pass old new [] ⊎ ((x : Step) × More pass old new (x ∷ []) × (x.deed ≡ Broke))
+
 -- a step that halts the server was added, or the server was down before, or memory was wanting
 abbrev pub TakeFails : {K : Type 0} → ℕ → List ℕ → Node K → Node K → ServeFault → Type 0
 TakeFails pass bytes old new fault.DiskFailed = (x : Step) × More pass old new (x ∷ []) × IsHalting bytes halt.DiskFailed x.deed
 TakeFails pass bytes old new fault.DiskStopped = (x : Step) × More pass old new (x ∷ []) × IsHalting bytes halt.DiskStopped x.deed
 TakeFails pass bytes old new (fault.Spent n) = (x : Step) × More pass old new (x ∷ []) × IsHalting bytes (halt.Spent n) x.deed
 TakeFails pass bytes old new fault.Down = More pass old new [] × ((h : Halt) × (new.halt ≡ Some h))
-TakeFails pass bytes old new fault.NoMemory = More pass old new []
+TakeFails pass bytes old new fault.NoMemory = Falls pass old new
 TakeFails pass bytes old new _ = ⊥
 
 -- the message of this body was taken
@@ -105,7 +109,7 @@ EndFails pass clerk old new fault.DiskFailed = (x : Step) × More pass old new (
 EndFails pass clerk old new fault.DiskStopped = (x : Step) × More pass old new (x ∷ []) × IsHaltedEnd clerk halt.DiskStopped x.deed
 EndFails pass clerk old new (fault.Spent n) = (x : Step) × More pass old new (x ∷ []) × IsHaltedEnd clerk (halt.Spent n) x.deed
 EndFails pass clerk old new fault.Down = More pass old new [] × ((h : Halt) × (new.halt ≡ Some h))
-EndFails pass clerk old new fault.NoMemory = More pass old new []
+EndFails pass clerk old new fault.NoMemory = Falls pass old new
 EndFails pass clerk old new _ = ⊥
 
 abbrev pub EndsTurn : {K : Type 0} → ℕ → ℕ → Node K → Node K → Result Told ServeFault → Type 0
@@ -146,13 +150,17 @@ peer_of (wire.Trailing p) = fault.Peer (wire.Trailing p)
 abbrev pub Adds : ℕ → List Step → List Step → List Step → Type 0
 Adds pass before after own = (theirs : List Step) × (before ++ (theirs ++ own) ≡ after) × (of number_of pass theirs ≡ []) × By pass own
 
+-- the same of memory that was wanting
+abbrev pub AddsFall : ℕ → List Step → List Step → Type 0
+AddsFall pass before after = Adds pass before after [] ⊎ ((x : Step) × Adds pass before after (x ∷ []) × (x.deed ≡ Broke))
+
 abbrev pub HearFails : ℕ → List ℕ → List Step → List Step → ServeFault → Type 0
 HearFails pass bytes old new (fault.Peer why) = Adds pass old new [] × (said bytes ≡ Err why) × (halted new ≡ None)
 HearFails pass bytes old new fault.DiskFailed = (x : Step) × Adds pass old new (x ∷ []) × IsHalting bytes halt.DiskFailed x.deed
 HearFails pass bytes old new fault.DiskStopped = (x : Step) × Adds pass old new (x ∷ []) × IsHalting bytes halt.DiskStopped x.deed
 HearFails pass bytes old new (fault.Spent n) = (x : Step) × Adds pass old new (x ∷ []) × IsHalting bytes (halt.Spent n) x.deed
 HearFails pass bytes old new fault.Down = Adds pass old new [] × ((h : Halt) × (halted new ≡ Some h))
-HearFails pass bytes old new fault.NoMemory = Adds pass old new []
+HearFails pass bytes old new fault.NoMemory = AddsFall pass old new
 HearFails pass bytes old new _ = ⊥
 
 -- the message of this body was taken
@@ -175,7 +183,7 @@ EndSessionFails pass clerk old new fault.DiskFailed = (x : Step) × Adds pass ol
 EndSessionFails pass clerk old new fault.DiskStopped = (x : Step) × Adds pass old new (x ∷ []) × IsHaltedEnd clerk halt.DiskStopped x.deed
 EndSessionFails pass clerk old new (fault.Spent n) = (x : Step) × Adds pass old new (x ∷ []) × IsHaltedEnd clerk (halt.Spent n) x.deed
 EndSessionFails pass clerk old new fault.Down = Adds pass old new [] × ((h : Halt) × (halted new ≡ Some h))
-EndSessionFails pass clerk old new fault.NoMemory = Adds pass old new []
+EndSessionFails pass clerk old new fault.NoMemory = AddsFall pass old new
 EndSessionFails pass clerk old new _ = ⊥
 
 abbrev pub EndsSession : ℕ → ℕ → List Step → List Step → Result Told ServeFault → Type 0
@@ -228,7 +236,7 @@ module _ {L : Type 0} (faults closes : L → ℕ) (given : L → Option (List He
   ServeFails boxes pass caller old new before after fault.DiskStopped = (x : Step) × (bytes : List ℕ) × Adds pass old new (x ∷ []) × IsHalting bytes halt.DiskStopped x.deed × GaveBody before after bytes
   ServeFails boxes pass caller old new before after (fault.Spent n) = (x : Step) × (bytes : List ℕ) × Adds pass old new (x ∷ []) × IsHalting bytes (halt.Spent n) x.deed × GaveBody before after bytes
   ServeFails boxes pass caller old new before after fault.Down = Adds pass old new [] × ((h : Halt) × (halted new ≡ Some h)) × (got_by after ≡ got_by before)
-  ServeFails boxes pass caller old new before after fault.NoMemory = Adds pass old new [] × (got_by after ≡ got_by before)
+  ServeFails boxes pass caller old new before after fault.NoMemory = AddsFall pass old new × (got_by after ≡ got_by before)
 
   -- behind the read, which gave nothing, the link kept back nothing of what it got
   abbrev pub WasClear : (L → Bool) → L → L → Type 0

@@ -13,8 +13,9 @@ ghost use Rattle.ec_servernode.specs.declared.state.Node.{Node as Value};
 ghost use Rattle.ec_servernode.specs.declared.fault.ServeFault.TheVariants as fault;
 ghost use Rattle.ec_servernode.specs.Callers.{accepted, hello_in, posted, refusal_in};
 ghost use Rattle.ec_servernode.specs.Node.{Since, Keeps, owner_at};
+ghost use Rattle.ec_servernode.specs.Breaking.{spends};
 ghost use Rattle.ec_servernode.specs.Run.{sender, clerk_by, caller_by, is_for};
-ghost use Rattle.ec_servernode.specs.Steps.{Grew, TookAs, EndedAs, Halts, halt_in, spends, told_in, taken_by, told_by};
+ghost use Rattle.ec_servernode.specs.Steps.{Grew, TookAs, EndedAs, Halts, Fell, halt_in, told_in, taken_by, told_by};
 ghost use Rattle.ec_servernode.specs.Told.{IsToldOf};
 ghost use Rattle.ec_servernode.specs.TurnSteps.{Takes, EndsTurn, Gives, fault_of};
 
@@ -99,16 +100,26 @@ impl<K: Keeper + Drop> Node<K> {
 
     // Adds a step, and what is sent by it goes to the outboxes. Where memory is wanting for that, nothing is done any more.
     fn grow(&mut self, pass: u64, deed: Deed, hello: Option<ClerkId>, sent: Vec<(ClerkId, Msg)>)
+        requires up { self.old.broken ≡ false }
         requires steps { self.old.steps < last_counter }
         requires sized { length self.old.boxes.items ≡ clerk_count }
         ensures { Grew pass deed hello sent.items self.old self.new }
     {
         own(&mut self.boxes, hello, pass);
-        let posted = post_all(&mut self.boxes, sent);
-        self.add(Step { pass, deed });
-        match posted {
-            Ok(()) => {}
-            Err(_) => self.broken = true,
+        match post_all(&mut self.boxes, sent) {
+            Ok(()) => self.add(Step {
+                pass,
+                deed,
+                lost: false,
+            }),
+            Err(_) => {
+                self.add(Step {
+                    pass,
+                    deed,
+                    lost: true,
+                });
+                self.broken = true;
+            }
         }
     }
 
@@ -121,6 +132,7 @@ impl<K: Keeper + Drop> Node<K> {
         msg: &Msg,
         served: Served,
     ) -> Taking
+        requires up { self.old.broken ≡ false }
         requires steps { self.old.steps < last_counter }
         requires sized { length self.old.boxes.items ≡ clerk_count }
         ensures grew { TookAs pass from body msg.now served self.old self.new }
@@ -149,10 +161,27 @@ impl<K: Keeper + Drop> Node<K> {
         ensures result { result ≡ fault_of halt }
         ensures stops { Halts pass deed halt self.old self.new }
     {
-        self.add(Step { pass, deed });
+        self.add(Step {
+            pass,
+            deed,
+            lost: false,
+        });
         self.halt = Some(halt);
         self.broken = !is_spent(halt);
         halted(halt)
+    }
+
+    // Memory is wanting for a step, and nothing is done any more. A mark says so.
+    fn breaks(&mut self, pass: u64)
+        requires { self.old.steps < last_counter }
+        ensures { Fell pass self.old self.new }
+    {
+        self.add(Step {
+            pass,
+            deed: Deed::Broke,
+            lost: true,
+        });
+        self.broken = true;
     }
 
     /// Takes the message of this body. A fault of the disk and a spent counter are told once, and `Down` is answered from then on.
@@ -181,7 +210,7 @@ impl<K: Keeper + Drop> Node<K> {
                     Err(self.stop(pass, deed, halt))
                 }
                 None => {
-                    self.broken = true;
+                    self.breaks(pass);
                     Err(ServeFault::NoMemory)
                 }
             },
@@ -201,7 +230,7 @@ impl<K: Keeper + Drop> Node<K> {
             Err(fault) => match halt_of(fault) {
                 Some(halt) => Err(self.stop(pass, Deed::HaltedEnd(clerk, halt), halt)),
                 None => {
-                    self.broken = true;
+                    self.breaks(pass);
                     Err(ServeFault::NoMemory)
                 }
             },
@@ -209,6 +238,7 @@ impl<K: Keeper + Drop> Node<K> {
     }
 
     fn ended(&mut self, pass: u64, clerk: ClerkId, served: Served) -> Told
+        requires up { self.old.broken ≡ false }
         requires steps { self.old.steps < last_counter }
         requires sized { length self.old.boxes.items ≡ clerk_count }
         ensures grew { EndedAs pass clerk served self.old self.new }
@@ -284,6 +314,7 @@ impl<K: Keeper + Drop> Node<K> {
                 self.add(Step {
                     pass,
                     deed: Deed::Refused(Snapshot::of(&msg)),
+                    lost: false,
                 });
                 Ok(Turned::Gave)
             }
@@ -350,6 +381,7 @@ impl<K: Keeper + Drop> Node<K> {
                         self.add(Step {
                             pass,
                             deed: Deed::Gave(caller.clerk, shot),
+                            lost: false,
                         });
                         Ok(Turned::Gave)
                     }

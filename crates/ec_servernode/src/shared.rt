@@ -1,5 +1,5 @@
 // The server that several threads share.
-ghost use Rattle.std.specs.Prelude.{◌≡◌, ℕ, ◌+◌, ◌<◌, ◌≤◌, ◌⊎◌, cond, List, [], ◌∷◌, Some, None, Ok, Err, IfOk, IfErr, IsTrue, MatchResult, Option};
+ghost use Rattle.std.specs.Prelude.{◌≡◌, ℕ, ◌+◌, ◌<◌, ◌≤◌, ◌⊎◌, cond, List, [], ◌∷◌, Some, None, Ok, Err, IfOk, IfErr, IfNone, IsTrue, MatchResult, Option};
 ghost use mathlib.Core.List.{IsPrefix};
 ghost use Rattle.ec_base.specs.Limits.{clerk_count};
 ghost use Rattle.ec_durable.specs.Durable.{slot};
@@ -14,6 +14,7 @@ ghost use Rattle.ec_servernode.specs.declared.step.Halt.{Halt as Why};
 ghost use Rattle.ec_servernode.specs.Floors.{no_floor};
 ghost use Rattle.ec_servernode.specs.Node.{Since, queue_at, state_of};
 ghost use Rattle.ec_servernode.specs.Safe.{StaysSafe};
+ghost use Rattle.ec_servernode.specs.Breaking.{Broken};
 ghost use Rattle.ec_servernode.specs.Run.{number_of, sender, put_all, for_clerk, halted, leads};
 ghost use Rattle.ec_servernode.specs.Steps.{told_in, taken_by, told_by};
 ghost use Rattle.ec_servernode.specs.TurnSteps.{IsServerPass, Adds, Looked, peer_of, Hears, TakesMessage, GivesNext, Serves, EndsSession, RunsFrom, Finished};
@@ -419,6 +420,7 @@ impl<K: Keeper + Drop> SharedServer<K> {
         ensures own { (n : ℕ) → Member n (numbers pass.old.pass) → of number_of n (front pass.old.pass) ≡ of number_of n (front pass.new.pass) }
         ensures run { RunsFrom K.kept (first self.lock) (front pass.new.pass) }
         ensures finished { Finished K.kept K.counts K.did K.broke (first self.lock) (front pass.new.pass) result.0 result.1 }
+        ensures wanted { IfNone result.0 (Broken (front pass.new.pass)) }
         ensures halt { result.2 ≡ halted (front pass.new.pass) }
     {
         let turn = self.lock.enter(rt, &mut pass.pass);
@@ -443,6 +445,7 @@ impl<K: Keeper + Drop> SharedServer<K> {
         ensures own { (n : ℕ) → Member n (numbers pass.old.pass) → of number_of n (front pass.old.pass) ≡ of number_of n (front pass.new.pass) }
         ensures run { RunsFrom K.kept (first self.lock) (front pass.new.pass) }
         ensures finished { Finished K.kept K.counts K.did K.broke (first self.lock) (front pass.new.pass) result.0 result.1 }
+        ensures wanted { IfNone result.0 (Broken (front pass.new.pass)) }
     {
         let (server, keeper, _) = self.close(rt, pass);
         (server, keeper)

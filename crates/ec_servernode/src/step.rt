@@ -28,6 +28,8 @@ pub enum Deed {
     Ended(ClerkId, Snapshot<Served>),
     /// The end of the clerk's open session ended so.
     HaltedEnd(ClerkId, Halt),
+    /// A mark: memory was wanting for a step, and from then on nothing is known of the server.
+    Broke,
 }
 
 #[derive(Drop)]
@@ -35,4 +37,6 @@ pub struct Step {
     /// The number of the pass that made it.
     pub pass: u64,
     pub deed: Deed,
+    /// Memory was wanting for what was to be sent by it, and from then on nothing is known of the outboxes.
+    pub lost: bool,
 }

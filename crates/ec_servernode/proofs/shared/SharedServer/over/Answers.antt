@@ -10,7 +10,7 @@ pub new-requires-2-clause-empty : goal.new-requires-2-clause-empty
 new-requires-2-clause-empty g c = c.new.ensures
 
 pub new-requires-2-clause-begins : goal.new-requires-2-clause-begins
-new-requires-2-clause-begins g c = begins g.K.Keeper.kept g.K.Keeper.counts g.K.Keeper.did g.K.Keeper.broke _ c.new.ensures refl refl c.requires c.in-Ok.ensures.sized c.in-Ok.ensures.owners
+new-requires-2-clause-begins g c = begins g.K.Keeper.kept g.K.Keeper.counts g.K.Keeper.did g.K.Keeper.broke _ c.new.ensures refl refl refl c.requires c.in-Ok.ensures.sized c.in-Ok.ensures.owners
 
 pub returns-in-Ok-new-clause-pass : goal.returns-in-Ok-new-clause-pass
 returns-in-Ok-new-clause-pass g c =

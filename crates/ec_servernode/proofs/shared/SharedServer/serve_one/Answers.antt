@@ -75,7 +75,7 @@ pub returns-in-NoMemory-clause-counts : goal.returns-in-NoMemory-clause-counts
 returns-in-NoMemory-clause-counts g c = (grows _ _ _ c.recv.ensures.faults, grows _ _ _ c.recv.ensures.closes)
 
 pub returns-in-NoMemory-clause-serves : goal.returns-in-NoMemory-clause-serves
-returns-in-NoMemory-clause-serves g c = (none_added c.args.pass.now.pass.number (front c.args.pass.now.pass), c.recv.ensures.got)
+returns-in-NoMemory-clause-serves g c = (inl (none_added c.args.pass.now.pass.number (front c.args.pass.now.pass)), c.recv.ensures.got)
 
 pub returns-in-Body-clause-safe : goal.returns-in-Body-clause-safe
 returns-in-Body-clause-safe g c = runs-safe g.K.Keeper.kept (first c.args.self.now.lock) (front c.hear.new.pass.pass) c.hear.ensures.pass.run

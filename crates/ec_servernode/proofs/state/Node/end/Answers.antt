@@ -1,10 +1,10 @@
-use Rattle.std.proofs.Common.{true, refl, sym, ◌∙◌, rules}
-use Rattle.ec_servernode.specs.declared.step.Deed.TheVariants.{Ended, HaltedEnd}
+use Rattle.std.proofs.Common.{true, false, refl, sym, ◌∙◌, rules}
+use Rattle.ec_servernode.specs.declared.step.Deed.TheVariants.{Ended, HaltedEnd, Broke}
 use Rattle.ec_servernode.specs.declared.step.Step.{Step}
 use Rattle.ec_servernode.specs.Folded.{session_ended}
 use Rattle.ec_servernode.specs.Node.{state_of}
 use Rattle.ec_servernode.proofs.Nodes.{ended_so, stopped, broke, halting_end, in_doubt}
-use Rattle.ec_servernode.proofs.Ends.{no_fault_up, same_caller, no_more, grew_ends, stop_ends, check_ends}
+use Rattle.ec_servernode.proofs.Ends.{no_fault_up, same_caller, fell_more, grew_ends, stop_ends, check_ends}
 use Rattle.ec_servernode.proofs.state.Node.end.Goals as goal
 
 pub end-requires : goal.end-requires
@@ -40,7 +40,7 @@ returns-in-Ok-clause-ends g c = grew_ends c.args.pass c.args.clerk c.in-Ok.serve
 pub returns-in-Ok-clause-caller : goal.returns-in-Ok-clause-caller
 returns-in-Ok-clause-caller g c =
     let grew = c.ended.ensures.grew in
-    let x : Step = record { pass = c.args.pass; deed = Ended c.args.clerk grew.copy } in
+    let x : Step = record { pass = c.args.pass; deed = Ended c.args.clerk grew.copy; lost = c.ended.new.self.broken } in
     same_caller c.args.pass c.args.self.now.trace.items c.ended.new.self.trace.items x grew.grew.list refl refl
 
 pub returns-in-Some-clause-keeps : goal.returns-in-Some-clause-keeps
@@ -55,14 +55,19 @@ returns-in-Some-clause-ends g c = stop_ends c.args.pass c.args.clerk c.in-Some.h
 
 pub returns-in-Some-clause-caller : goal.returns-in-Some-clause-caller
 returns-in-Some-clause-caller g c =
-    let x : Step = record { pass = c.args.pass; deed = HaltedEnd c.args.clerk c.in-Some.halt } in
+    let x : Step = record { pass = c.args.pass; deed = HaltedEnd c.args.clerk c.in-Some.halt; lost = false } in
     same_caller c.args.pass c.args.self.now.trace.items c.stop.new.self.trace.items x c.stop.ensures.stops.list refl refl
 
 pub returns-in-None-clause-keeps : goal.returns-in-None-clause-keeps
 returns-in-None-clause-keeps g c =
-    broke g.K.Keeper.kept g.K.Keeper.counts g.K.Keeper.did g.K.Keeper.broke c.args.self.now (record c.args.self.now { server = c.end.new.server; keeper = c.end.new.keeper; broken = true }) c.end.new.server c.end.new.keeper c.in_ok-check.ensures.ok.0
+    broke g.K.Keeper.kept g.K.Keeper.counts g.K.Keeper.did g.K.Keeper.broke c.args.pass c.args.self.now c.breaks.new.self c.end.new.server c.end.new.keeper c.in_ok-check.ensures.ok.0
     (no_fault_up _ _ _ _ c.end.ensures.counts) c.end.ensures.stands c.in_ok-check.ensures.ok.1
-    (in_doubt g.K.Keeper.kept g.K.Keeper.counts g.K.Keeper.did g.K.Keeper.broke c.in-Err.fault (session_ended c.args.clerk (state_of g.K.Keeper.kept c.args.self.now)) c.args.self.now.keeper c.end.new.keeper c.in-Err.ensures.hurts) refl
+    (in_doubt g.K.Keeper.kept g.K.Keeper.counts g.K.Keeper.did g.K.Keeper.broke c.in-Err.fault (session_ended c.args.clerk (state_of g.K.Keeper.kept c.args.self.now)) c.args.self.now.keeper c.end.new.keeper c.in-Err.ensures.hurts) c.breaks.ensures
 
 pub returns-in-None-clause-ends : goal.returns-in-None-clause-ends
-returns-in-None-clause-ends g c = no_more c.args.pass c.args.self.now (record c.args.self.now { server = c.end.new.server; keeper = c.end.new.keeper; broken = true }) refl
+returns-in-None-clause-ends g c = fell_more c.args.pass c.args.self.now c.breaks.new.self c.end.new.server c.end.new.keeper c.breaks.ensures
+
+pub returns-in-None-clause-caller : goal.returns-in-None-clause-caller
+returns-in-None-clause-caller g c =
+    let x : Step = record { pass = c.args.pass; deed = Broke; lost = true } in
+    same_caller c.args.pass c.args.self.now.trace.items c.breaks.new.self.trace.items x c.breaks.ensures.list refl refl

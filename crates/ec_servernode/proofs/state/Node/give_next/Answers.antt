@@ -51,12 +51,12 @@ returns-in-Done-clause-keeps g c =
 
 pub returns-in-Done-clause-gives : goal.returns-in-Done-clause-gives
 returns-in-Done-clause-gives g c =
-    let x : Step = record { pass = c.args.pass; deed = Gave c.args.caller.now.clerk c.of-shot.result } in
+    let x : Step = record { pass = c.args.pass; deed = Gave c.args.caller.now.clerk c.of-shot.result; lost = false } in
     (x, c.in-Some.msg.now, (c.add.ensures.list, (refl, tt)), (c.requires.refusal, refl, c.of-shot.ensures), c.in-Done.ensures.got, ap (λ n. n.halt) c.add.ensures.others ∙ c.requires.up.0)
 
 pub returns-in-Done-clause-caller : goal.returns-in-Done-clause-caller
 returns-in-Done-clause-caller g c =
-    let x : Step = record { pass = c.args.pass; deed = Gave c.args.caller.now.clerk c.of-shot.result } in
+    let x : Step = record { pass = c.args.pass; deed = Gave c.args.caller.now.clerk c.of-shot.result; lost = false } in
     same_caller c.args.pass c.args.self.now.trace.items c.add.new.self.trace.items x c.add.ensures.list refl refl ∙ (sym c.requires.caller ∙ as_answered c.args.caller.now c.requires.refusal)
 
 pub returns-in-Done-clause-counts : goal.returns-in-Done-clause-counts

@@ -17,12 +17,12 @@ returns-in-Done-clause-keeps g c first s =
 
 pub returns-in-Done-clause-gives : goal.returns-in-Done-clause-gives
 returns-in-Done-clause-gives g c =
-    let x : Step = record { pass = c.args.pass; deed = Refused c.of.result } in
+    let x : Step = record { pass = c.args.pass; deed = Refused c.of.result; lost = false } in
     (x, msg_of c.args.to.refusal, (c.add.ensures.list, (refl, tt)), (subst (λ o. IsRefusal o (msg_of c.args.to.refusal)) (sym c.requires.refusal) refl, c.of.ensures), c.in-Done.ensures.got, ap (λ n. n.halt) c.add.ensures.others ∙ c.requires.up.0)
 
 pub returns-in-Done-clause-caller : goal.returns-in-Done-clause-caller
 returns-in-Done-clause-caller g c =
-    let x : Step = record { pass = c.args.pass; deed = Refused c.of.result } in
+    let x : Step = record { pass = c.args.pass; deed = Refused c.of.result; lost = false } in
     ap (caller_by c.args.pass) c.add.ensures.list ∙ (caller-push c.args.pass c.args.self.now.trace.items x refl ∙ ap refusal_sent (sym c.requires.caller))
 
 pub returns-in-Done-clause-counts : goal.returns-in-Done-clause-counts

@@ -1,10 +1,10 @@
-use Rattle.std.proofs.Common.{true, refl, sym, ◌∙◌, rules}
-use Rattle.ec_servernode.specs.declared.step.Deed.TheVariants.{Halted}
+use Rattle.std.proofs.Common.{true, false, refl, sym, ◌∙◌, rules}
+use Rattle.ec_servernode.specs.declared.step.Deed.TheVariants.{Halted, Broke}
 use Rattle.ec_servernode.specs.declared.step.Step.{Step}
 use Rattle.ec_servernode.specs.Folded.{message_taken}
 use Rattle.ec_servernode.specs.Node.{state_of}
 use Rattle.ec_servernode.proofs.Nodes.{took, stopped, broke, halting, in_doubt}
-use Rattle.ec_servernode.proofs.Ends.{no_fault_up, same_caller, next_caller, no_more, grew_takes, stop_fails, check_takes}
+use Rattle.ec_servernode.proofs.Ends.{no_fault_up, same_caller, next_caller, fell_more, grew_takes, stop_fails, check_takes}
 use Rattle.ec_servernode.proofs.state.Node.take.Goals as goal
 
 pub take-requires-clause-stands : goal.take-requires-clause-stands
@@ -57,14 +57,19 @@ returns-in-Some-clause-takes g c =
 
 pub returns-in-Some-clause-caller : goal.returns-in-Some-clause-caller
 returns-in-Some-clause-caller g c =
-    let x : Step = record { pass = c.args.pass; deed = Halted c.args.from c.args.body c.of.result c.in-Some.halt } in
+    let x : Step = record { pass = c.args.pass; deed = Halted c.args.from c.args.body c.of.result c.in-Some.halt; lost = false } in
     same_caller c.args.pass c.args.self.now.trace.items c.stop.new.self.trace.items x c.stop.ensures.stops.list refl refl
 
 pub returns-in-None-clause-keeps : goal.returns-in-None-clause-keeps
 returns-in-None-clause-keeps g c =
-    broke g.K.Keeper.kept g.K.Keeper.counts g.K.Keeper.did g.K.Keeper.broke c.args.self.now (record c.args.self.now { server = c.take.new.server; keeper = c.take.new.keeper; broken = true }) c.take.new.server c.take.new.keeper c.in_ok-check.ensures.ok.0
+    broke g.K.Keeper.kept g.K.Keeper.counts g.K.Keeper.did g.K.Keeper.broke c.args.pass c.args.self.now c.breaks.new.self c.take.new.server c.take.new.keeper c.in_ok-check.ensures.ok.0
     (no_fault_up _ _ _ _ c.take.ensures.counts) c.take.ensures.stands c.in_ok-check.ensures.ok.1
-    (in_doubt g.K.Keeper.kept g.K.Keeper.counts g.K.Keeper.did g.K.Keeper.broke c.in-Err.fault (message_taken c.args.from c.args.msg.now (state_of g.K.Keeper.kept c.args.self.now)) c.args.self.now.keeper c.take.new.keeper c.in-Err.ensures.hurts) refl
+    (in_doubt g.K.Keeper.kept g.K.Keeper.counts g.K.Keeper.did g.K.Keeper.broke c.in-Err.fault (message_taken c.args.from c.args.msg.now (state_of g.K.Keeper.kept c.args.self.now)) c.args.self.now.keeper c.take.new.keeper c.in-Err.ensures.hurts) c.breaks.ensures
 
 pub returns-in-None-clause-takes : goal.returns-in-None-clause-takes
-returns-in-None-clause-takes g c = no_more c.args.pass c.args.self.now (record c.args.self.now { server = c.take.new.server; keeper = c.take.new.keeper; broken = true }) refl
+returns-in-None-clause-takes g c = fell_more c.args.pass c.args.self.now c.breaks.new.self c.take.new.server c.take.new.keeper c.breaks.ensures
+
+pub returns-in-None-clause-caller : goal.returns-in-None-clause-caller
+returns-in-None-clause-caller g c =
+    let x : Step = record { pass = c.args.pass; deed = Broke; lost = true } in
+    same_caller c.args.pass c.args.self.now.trace.items c.breaks.new.self.trace.items x c.breaks.ensures.list refl refl
