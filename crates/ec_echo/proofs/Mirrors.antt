@@ -14,14 +14,17 @@ use Rattle.ec_words.specs.OfText.Lines.{shown_text}
 use Rattle.ec_serve.specs.Serve.{Serves, Outside as Serving}
 use Rattle.ec_serve.specs.declared.ending.Ending.{Ending}
 use Rattle.ec_serve.specs.declared.ending.Ending.TheVariants as ending
+use Rattle.ec_lease.specs.OfDrill.Drill.{LeaseDrilled}
+use Rattle.ec_lease.specs.declared.drill.status.Status as leased
+use Rattle.ec_lease.specs.declared.drill.status.Status.TheVariants as lease
 use Rattle.ec_half.specs.declared.fault.MirrorFault.{MirrorFault}
 use Rattle.ec_half.specs.declared.fault.MirrorFault.TheVariants as fault
 use Rattle.ec_mirror.specs.Disks.{StandsOver, Standing, faults_in}
 use Rattle.ec_echo.specs.DiskUse.{uses_disk}
-use Rattle.ec_echo.specs.Echo.{Links, serving}
+use Rattle.ec_echo.specs.Echo.{Links, leasing, serving}
 use Rattle.ec_echo.specs.Serving.{Served, TellsEnding}
 use Rattle.ec_echo.specs.Soak.{Told, TellsCounts, summary_text, last_text}
-use Rattle.ec_echo.specs.Statuses.{code, of_drill}
+use Rattle.ec_echo.specs.Statuses.{code, of_drill, of_leases}
 use Rattle.ec_echo.specs.Mirroring.{Kind, Mirrored, Opened, Promised, RanMirrored, TellsFault, UsesDisk, UsesNone, mirror_text}
 use Rattle.ec_echo.specs.OfNamed.Forms.{DoesServe, outside}
 use Rattle.ec_echo.specs.OfNamed.Seen.{store}
@@ -29,7 +32,7 @@ use Rattle.ec_echo.specs.OfNamed.Soaks.{DoesSoak, SoaksOnce, made, transcribed}
 use Rattle.ec_echo.specs.Words.{Spells}
 use Rattle.ec_echo.specs.Written.{TellsText, WroteWith, WroteNothing}
 use Rattle.ec_echo.specs.declared.command.Command.{Command}
-use Rattle.ec_echo.specs.declared.command.Command.TheVariants.{Drill, Check, Make, Soak, Serve, Mount}
+use Rattle.ec_echo.specs.declared.command.Command.TheVariants.{Drill, Check, Make, Soak, Serve, Mount, Leases}
 use Rattle.ec_echo.specs.declared.status.Status.{Status}
 use Rattle.ec_echo.specs.declared.status.Status.TheVariants as status
 
@@ -104,10 +107,22 @@ module _ (result : ℕ) (source sink : Stream) (store : Store) (is : result ≡ 
       let s = subst (λ (x : Status). Served count x sink.bytes sink.bytes_after sink.faults sink.faults_after (serving (outside source sink store) n)) so served in
       server_fault count s.0 sink.bytes sink.bytes_after sink.faults sink.faults_after (serving (outside source sink store) n) s.1 s.2
 
+  lease_fault : (l e : ℕ) (end : leased.Status) → result ≡ code (of_leases end) → LeaseDrilled l e end (leasing (outside source sink store)) → Rose store.counts.faults store.counts_after.faults
+  lease_fault l e lease.Done code_is d = absurd (grind (arith, sym code_is ∙ is))
+  lease_fault l e lease.BadLine code_is d = absurd (grind (arith, sym code_is ∙ is))
+  lease_fault l e lease.SourceFault code_is d = absurd (grind (arith, sym code_is ∙ is))
+  lease_fault l e lease.SinkFault code_is d = absurd (grind (arith, sym code_is ∙ is))
+  lease_fault l e lease.DiskFault code_is d = d.0
+  lease_fault l e lease.BadDisk code_is d = absurd (grind (arith, sym code_is ∙ is))
+  lease_fault l e lease.NoMemory code_is d = absurd (grind (arith, sym code_is ∙ is))
+  lease_fault l e lease.Limit code_is d = absurd (grind (arith, sym code_is ∙ is))
+  lease_fault l e lease.Spent code_is d = absurd (grind (arith, sym code_is ∙ is))
+
   pub disk-failed : (boot : ℕ) (words : List (List ℕ)) (n : Links) → Promised boot words result source sink store n → UsesDisk words → Rose store.counts.faults store.counts_after.faults
   disk-failed boot words n p (Drill most, s, uses) = (p.lines.statuses most s).disk_failed is
   disk-failed boot words n p (Soak number, s, uses) = soak_fault number (p.forms.soak number s)
   disk-failed boot words n p (Serve count, s, uses) = serve_fault count n (p.forms.serve count s)
+  disk-failed boot words n p (Leases l e, s, uses) = let d = p.forms.leases l e s in lease_fault l e d.0 d.1 d.2
   disk-failed boot words n p (Check most, s, uses) = absurd (grind (arith, uses))
   disk-failed boot words n p (Make number, s, uses) = absurd (grind (arith, uses))
   disk-failed boot words n p (Mount clerk, s, uses) = absurd (grind (arith, uses))

@@ -1,6 +1,9 @@
 pub mod Bytes
 pub mod Facts
 pub mod Lines
+pub mod Leased
+pub mod LeaseSessions
 pub mod Runs
 pub mod Words
 pub mod Promised
+pub mod PlainLeased

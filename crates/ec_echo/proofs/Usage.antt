@@ -8,6 +8,8 @@ use Rattle.ec_history.specs.declared.shown.Shown.TheVariants as shown
 use Rattle.ec_words.specs.OfText.Lines.{shown_text}
 use Rattle.ec_serve.specs.declared.ending.Ending.{Ending}
 use Rattle.ec_serve.specs.declared.ending.Ending.TheVariants as ending
+use Rattle.ec_lease.specs.declared.drill.status.Status as leased
+use Rattle.ec_lease.specs.declared.drill.status.Status.TheVariants as lease
 use Rattle.ec_mount.specs.declared.status.Status as mounted
 use Rattle.ec_mount.specs.declared.status.Status.TheVariants as mount
 use Rattle.ec_echo.specs.Echo.{Links}
@@ -15,11 +17,11 @@ use Rattle.ec_echo.specs.Forms.{DoesForm, Echoes}
 use Rattle.ec_echo.specs.Soak.{Told, TellsCounts, summary_text, last_text}
 use Rattle.ec_echo.specs.SoakDrills.{Soaked}
 use Rattle.ec_echo.specs.Serving.{TellsEnding}
-use Rattle.ec_echo.specs.Statuses.{code, of_drill, of_mount}
+use Rattle.ec_echo.specs.Statuses.{code, of_drill, of_leases, of_mount}
 use Rattle.ec_echo.specs.Written.{TellsText, WroteWith}
 use Rattle.ec_echo.specs.Words.{Spells}
 use Rattle.ec_echo.specs.declared.command.Command.{Command}
-use Rattle.ec_echo.specs.declared.command.Command.TheVariants.{Drill, Check, Make, Soak, Serve, Mount}
+use Rattle.ec_echo.specs.declared.command.Command.TheVariants.{Drill, Check, Make, Soak, Serve, Mount, Leases}
 use Rattle.ec_echo.specs.declared.status.Status.{Status}
 use Rattle.ec_echo.specs.declared.status.Status.TheVariants as status
 
@@ -107,6 +109,17 @@ mount_not mount.OldBoot e = absurd (grind (arith, e))
 mount_not mount.PeerFault e = absurd (grind (arith, e))
 mount_not mount.Spent e = absurd (grind (arith, e))
 
+leases_not : (end : leased.Status) → status.Usage ≡ of_leases end → ⊥
+leases_not lease.Done e = absurd (grind (arith, e))
+leases_not lease.BadLine e = absurd (grind (arith, e))
+leases_not lease.SourceFault e = absurd (grind (arith, e))
+leases_not lease.SinkFault e = absurd (grind (arith, e))
+leases_not lease.DiskFault e = absurd (grind (arith, e))
+leases_not lease.BadDisk e = absurd (grind (arith, e))
+leases_not lease.NoMemory e = absurd (grind (arith, e))
+leases_not lease.Limit e = absurd (grind (arith, e))
+leases_not lease.Spent e = absurd (grind (arith, e))
+
 does_not : (boot : ℕ) (c : Command) (w : Outside) (n : Links) → DoesForm boot c status.Usage w n → ⊥
 does_not boot (Drill most) w n d = drill_not most d.0.0 w d.0.2 d.0.1
 does_not boot (Check most) w n d = absurd (d.0.0.1)
@@ -114,6 +127,7 @@ does_not boot (Make number) w n d = d.0.0
 does_not boot (Soak number) w n d = soaked_not number w d.0.0
 does_not boot (Serve count) w n d = ending_not d.0.0 w.sink.bytes w.sink.bytes_after w.sink.faults w.sink.faults_after d.0.2
 does_not boot (Mount clerk) w n d = mount_not d.0 d.1
+does_not boot (Leases l e) w n d = leases_not d.0.0 d.0.1
 
 -- words of no form, and no others, come to this status
 pub usage-of : (boot : ℕ) (words : List (List ℕ)) (st : Status) (w : Outside) (n : Links) → Echoes boot words st w n → (code st ≡ 2) ↔ ((c : Command) → Spells words c → ⊥)

@@ -4,6 +4,7 @@ use Rattle.std.specs.Io.KnownBytes.{Appends}
 use Rattle.ec_base.specs.Outside.{Rose}
 use Rattle.ec_script.specs.OfGenerator.Generator.{script_of}
 use Rattle.ec_drill.specs.Drill.{Outside, IsDiskUntouched}
+use Rattle.ec_lease.specs.OfDrill.Drill.{LeaseOutside}
 use Rattle.ec_serve.specs.Serve.{Outer, Outside as Serving}
 use Rattle.ec_mount.specs.Mount.{Outside as Mounting}
 use Rattle.ec_echo.specs.Made.{made_lines}
@@ -53,6 +54,24 @@ mounting w n = record {
   writes_after = w.sink.faults_after;
   net = record { faults = n.before.faults; bad = n.before.bad; ended = n.before.ended };
   net_after = record { faults = n.later.faults; bad = n.later.bad; ended = n.later.ended };
+}
+
+-- the source, the sink and the disk of a drill with leases
+abbrev pub leasing : Outside → LeaseOutside
+leasing w = record {
+  left = w.source.bytes;
+  left_after = w.source.bytes_after;
+  reads = w.source.faults;
+  reads_after = w.source.faults_after;
+  held = w.sink.bytes;
+  held_after = w.sink.bytes_after;
+  writes = w.sink.faults;
+  writes_after = w.sink.faults_after;
+  tells = w.store.tells;
+  disk = w.store.disk;
+  disk_after = w.store.disk_after;
+  counts = w.store.counts;
+  counts_after = w.store.counts_after;
 }
 
 -- The script of this number was written, or a part of it, or nothing.

@@ -1,6 +1,7 @@
 pub mod Statuses
 pub mod Words
 pub mod DiskUse
+pub mod NetUse
 pub mod Written
 pub mod Check
 pub mod Made

@@ -21,6 +21,8 @@ use Rattle.ec_echo.specs.declared.command.Command.{Command}
 use Rattle.ec_echo.specs.declared.status.Status.{Status}
 use Rattle.ec_echo.specs.declared.status.Status.TheVariants as status
 use Rattle.ec_echo.specs.OfNamed.Forms.{OnDrill, OnCheck, OnMake, OnSoak, OnServe, OnMount, Asks, DoesDrill, DoesCheck, DoesMake, DoesServe, DoesMount, TouchesNothing, IsAlone, outside}
+use Rattle.ec_echo.specs.OfNamed.Leases.{DoesLeases, LeaseBytes, LeaseCalls, LeaseHistory, LeaseLines, LeaseSessions, LeaseStores, OnLeases}
+use Rattle.ec_echo.specs.OfNamed.PlainLeases.{LeaseComplete}
 use Rattle.ec_echo.specs.OfNamed.Promises.{History, LinesInPlace, PlainReplies, ExactReports, LawfulLosses, Fsync, Room}
 use Rattle.ec_echo.specs.OfNamed.Runs.{Together, OwnCalls, Sessions, Spent, Complete, WriteBehind, Stores, Causes}
 use Rattle.ec_echo.specs.OfNamed.Seen.{store}
@@ -47,6 +49,16 @@ pub record LinesPromised (words : List (List ℕ)) (result : ℕ) (source sink :
   pub disk : OnDrill words (Stores result source sink store)
   pub statuses : OnDrill words (Causes result source sink store)
 
+-- And of those of a drill with leases.
+pub record LeasesPromised (words : List (List ℕ)) (result : ℕ) (source sink : Stream) (store : Store) : Type 0 where
+  pub lease_history : OnLeases words (LeaseHistory result source sink store)
+  pub lease_lines : OnLeases words (LeaseLines result source sink store)
+  pub lease_calls : OnLeases words (LeaseCalls result source sink store)
+  pub lease_sessions : OnLeases words (LeaseSessions result source sink store)
+  pub lease_disk : OnLeases words (LeaseStores result source sink store)
+  pub lease_complete : OnLeases words (LeaseComplete result source sink store)
+  pub lease_bytes : OnLeases words (LeaseBytes result sink)
+
 -- What is promised of each form of words.
 pub record FormsPromised (boot : ℕ) (words : List (List ℕ)) (result : ℕ) (source sink : Stream) (store : Store) (n : Links) : Type 0 where
   pub usage : Asks words result
@@ -61,10 +73,12 @@ pub record FormsPromised (boot : ℕ) (words : List (List ℕ)) (result : ℕ) (
   pub soak : OnSoak words (DoesSoak result source sink store)
   pub serve : OnServe words (DoesServe result (outside source sink store) n)
   pub mount : OnMount words (DoesMount boot result (outside source sink store) n)
+  pub leases : OnLeases words (DoesLeases result (outside source sink store))
 
 -- all that the program promises over one disk
 pub record Promised (boot : ℕ) (words : List (List ℕ)) (result : ℕ) (source sink : Stream) (store : Store) (n : Links) : Type 0 where
   pub lines : LinesPromised words result source sink store
+  pub leases : LeasesPromised words result source sink store
   pub forms : FormsPromised boot words result source sink store n
 
 -- what the words ask for uses a disk, or it doesn't

@@ -5,3 +5,5 @@ pub mod Forms
 pub mod Runs
 pub mod Soaks
 pub mod States
+pub mod Leases
+pub mod PlainLeases

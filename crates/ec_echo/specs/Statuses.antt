@@ -2,6 +2,8 @@
 use Rattle.std.specs.Prelude.{ℕ}
 use Rattle.ec_drill.specs.declared.status.Status.TheVariants as drill
 use Rattle.ec_drill.specs.declared.status.Status as drilled
+use Rattle.ec_lease.specs.declared.drill.status.Status as leased
+use Rattle.ec_lease.specs.declared.drill.status.Status.TheVariants as lease
 use Rattle.ec_mount.specs.declared.status.Status as mounted
 use Rattle.ec_mount.specs.declared.status.Status.TheVariants as mount
 use Rattle.ec_echo.specs.declared.status.Status.{Status}
@@ -51,3 +53,15 @@ of_mount mount.Limit = status.Limit
 of_mount mount.OldBoot = status.OldBoot
 of_mount mount.PeerFault = status.PeerFault
 of_mount mount.Spent = status.Spent
+
+-- the program ends as its drill with leases does
+abbrev pub of_leases : leased.Status → Status
+of_leases lease.Done = status.Done
+of_leases lease.BadLine = status.BadLine
+of_leases lease.SourceFault = status.SourceFault
+of_leases lease.SinkFault = status.SinkFault
+of_leases lease.DiskFault = status.DiskFault
+of_leases lease.BadDisk = status.BadDisk
+of_leases lease.NoMemory = status.NoMemory
+of_leases lease.Limit = status.Limit
+of_leases lease.Spent = status.Spent

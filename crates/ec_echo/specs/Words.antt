@@ -4,7 +4,7 @@ use Rattle.ec_words.specs.Spelling.{IsNumberIn, IsClerk}
 use Rattle.ec_durable.specs.WellFormed.{least_max_objects, most_max_objects}
 use Rattle.ec_drill.specs.Limits.{most_objects}
 use Rattle.ec_echo.specs.declared.command.Command.{Command}
-use Rattle.ec_echo.specs.declared.command.Command.TheVariants.{Drill, Check, Make, Soak, Serve, Mount}
+use Rattle.ec_echo.specs.declared.command.Command.TheVariants.{Drill, Check, Make, Soak, Serve, Mount, Leases}
 
 -- a word, and a number within these limits
 abbrev pub IsNumbered : List ℕ → ℕ → ℕ → List (List ℕ) → ℕ → Type 0
@@ -27,6 +27,10 @@ IsAddressed text least most words n = (addr : List ℕ) × (word : List ℕ) × 
 abbrev pub IsOfClerk : List ℕ → List (List ℕ) → ℕ → Type 0
 IsOfClerk text words c = (addr : List ℕ) × (word : List ℕ) × (words ≡ text ∷ addr ∷ word ∷ []) × IsAddress addr × IsClerk word c
 
+-- a word, how long Leases run, and by how much clocks differ at most, which is less
+abbrev pub IsOfLeases : List ℕ → List (List ℕ) → ℕ → ℕ → Type 0
+IsOfLeases text words l e = (length : List ℕ) × (most : List ℕ) × (words ≡ text ∷ length ∷ most ∷ []) × IsNumberIn 1 1000000 length l × IsNumberIn 0 (l - 1) most e
+
 -- the forms of words, and what each asks for
 abbrev pub Spells : List (List ℕ) → Command → Type 0
 Spells words (Drill most) = IsOfVolume (codes "drill") words most
@@ -35,3 +39,4 @@ Spells words (Make n) = IsNumbered (codes "make") 0 (2 ^ 32 - 1) words n
 Spells words (Soak n) = IsNumbered (codes "soak") 0 (2 ^ 32 - 1) words n
 Spells words (Serve n) = IsAddressed (codes "serve") 1 1000000 words n
 Spells words (Mount c) = IsOfClerk (codes "mount") words c
+Spells words (Leases l e) = IsOfLeases (codes "leases") words l e

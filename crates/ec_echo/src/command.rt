@@ -1,5 +1,5 @@
 // What the words of the program ask for.
-ghost use Rattle.std.specs.Prelude.{◌≡◌, ℕ, List, [], ◌∷◌, map, MatchOption, MatchBool};
+ghost use Rattle.std.specs.Prelude.{◌≡◌, ℕ, List, [], ◌∷◌, map, codes, MatchOption, MatchBool};
 ghost use Rattle.std.specs.String.{string_bytes};
 ghost use Rattle.ec_echo.specs.Words.{Spells, IsAddress};
 ghost use Rattle.ec_echo.specs.DiskUse.{uses_disk};
@@ -24,6 +24,8 @@ pub enum Command {
     Serve(u32),
     /// Runs a lane script by this clerk.
     Mount(ClerkId),
+    /// Drills a script with leases. They run for so long, and clocks differ by at most so much.
+    Leases(u64, u64),
 }
 
 impl Command {
@@ -32,7 +34,8 @@ impl Command {
         ensures { result ≡ uses_disk self }
     {
         match self {
-            Command::Drill(_) | Command::Soak(_) | Command::Serve(_) => true,
+            Command::Drill(_) | Command::Soak(_) | Command::Serve(_) | Command::Leases(_, _) =>
+                true,
             Command::Check(_) | Command::Make(_) | Command::Mount(_) => false,
         }
     }
@@ -45,7 +48,7 @@ pub fn command_of(words: &[String]) -> Option<Command>
     match words {
         [word] => alone(word.as_bytes()),
         [word, number] => numbered(word.as_bytes(), number.as_bytes()),
-        [word, addr, last] => addressed(word.as_bytes(), addr.as_bytes(), last.as_bytes()),
+        [word, first, last] => threefold(word.as_bytes(), first.as_bytes(), last.as_bytes()),
         _ => None,
     }
 }
@@ -80,9 +83,12 @@ fn numbered(word: &[u8], number: &[u8]) -> Option<Command>
     None
 }
 
-fn addressed(word: &[u8], addr: &[u8], last: &[u8]) -> Option<Command>
+fn threefold(word: &[u8], addr: &[u8], last: &[u8]) -> Option<Command>
     ensures { MatchOption result ((c : Command) → Spells (word.now ∷ addr.now ∷ last.now ∷ []) c → ⊥) (λ c. Spells (word.now ∷ addr.now ∷ last.now ∷ []) c) }
 {
+    if word == b"leases".as_slice() {
+        return leases(addr, last);
+    }
     if !is_address(addr) {
         return None;
     }
@@ -93,6 +99,15 @@ fn addressed(word: &[u8], addr: &[u8], last: &[u8]) -> Option<Command>
         return Some(Command::Mount(clerk_of(last)?));
     }
     None
+}
+
+// How long Leases run, and by how much clocks differ at most, which is less.
+fn leases(length: &[u8], most: &[u8]) -> Option<Command>
+    ensures { MatchOption result ((c : Command) → Spells (codes "leases" ∷ length.now ∷ most.now ∷ []) c → ⊥) (λ c. Spells (codes "leases" ∷ length.now ∷ most.now ∷ []) c) }
+{
+    let length = number_in(length, 1, 1_000_000)?;
+    let most = number_in(most, 0, length - 1)?;
+    Some(Command::Leases(length, most))
 }
 
 // A word that isn't empty, and doesn't begin with a hyphen.

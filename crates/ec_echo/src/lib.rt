@@ -27,6 +27,7 @@ pub use command::{Command, command_of};
 use ec_base::{Sink, Source};
 use ec_disk::CrashDisk;
 use ec_drill::drill;
+use ec_lease::drill::lease_drill;
 use ec_link::{Around, Net, Spawner};
 use ec_mount::mount;
 use ec_serve::Listening;
@@ -88,6 +89,9 @@ pub fn run_words<R: Around + Eprint, S: Source, K: Sink, D: CrashDisk + Send, N:
         Command::Mount(clerk) => {
             let addr = address_of(words);
             Status::of_mount(mount(rt, source, sink, net, spawner, addr, clerk, boot)).code()
+        }
+        Command::Leases(length, most) => {
+            Status::of_leases(lease_drill(rt.alloc(), source, sink, disk, length, most)).code()
         }
     }
 }

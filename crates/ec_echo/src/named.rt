@@ -7,6 +7,8 @@ ghost use Rattle.ec_echo.specs.OfNamed.Seen.{stream, store};
 ghost use Rattle.ec_echo.specs.OfNamed.Told.{WroteLines};
 ghost use Rattle.ec_echo.specs.OfNamed.Promises.{History, LinesInPlace, PlainReplies, ExactReports, LawfulLosses, Fsync, Room};
 ghost use Rattle.ec_echo.specs.OfNamed.Runs.{Together, OwnCalls, Sessions, Spent, Complete, WriteBehind, Stores, Causes};
+ghost use Rattle.ec_echo.specs.OfNamed.Leases.{DoesLeases, LeaseBytes, LeaseCalls, LeaseHistory, LeaseLines, LeaseSessions, LeaseStores, OnLeases};
+ghost use Rattle.ec_echo.specs.OfNamed.PlainLeases.{LeaseComplete};
 ghost use Rattle.ec_echo.specs.OfNamed.Soaks.{DoesSoak};
 ghost use Rattle.ec_echo.specs.OfNamed.States.{StatesInOrder, DiskOfCut};
 ghost use Rattle.ec_echo.specs.OfNamed.Forms.{OnDrill, OnCheck, OnMake, OnSoak, OnServe, OnMount, Asks, DoesDrill, DoesCheck, DoesMake, DoesServe, DoesMount, TouchesNothing, IsAlone, outside, links};
@@ -49,6 +51,14 @@ pub fn echo_main<R: Around + Eprint, S: Source, K: Sink, D: CrashDisk + Send, N:
     ensures write_behind { OnDrill (map string_bytes words.now) (WriteBehind result (stream S.left S.faults source.old source.new) (stream K.held K.faults sink.old sink.new) (store D.tells D.view D.counts disk.old disk.new)) }
     ensures disk { OnDrill (map string_bytes words.now) (Stores result (stream S.left S.faults source.old source.new) (stream K.held K.faults sink.old sink.new) (store D.tells D.view D.counts disk.old disk.new)) }
     ensures statuses { OnDrill (map string_bytes words.now) (Causes result (stream S.left S.faults source.old source.new) (stream K.held K.faults sink.old sink.new) (store D.tells D.view D.counts disk.old disk.new)) }
+    // The lines that a drill with leases wrote, but those that say that a session doesn't end yet: they stand in one legal history of one uncached volume, in printed order.
+    ensures lease_history { OnLeases (map string_bytes words.now) (LeaseHistory result (stream S.left S.faults source.old source.new) (stream K.held K.faults sink.old sink.new) (store D.tells D.view D.counts disk.old disk.new)) }
+    ensures lease_lines { OnLeases (map string_bytes words.now) (LeaseLines result (stream S.left S.faults source.old source.new) (stream K.held K.faults sink.old sink.new) (store D.tells D.view D.counts disk.old disk.new)) }
+    ensures lease_calls { OnLeases (map string_bytes words.now) (LeaseCalls result (stream S.left S.faults source.old source.new) (stream K.held K.faults sink.old sink.new) (store D.tells D.view D.counts disk.old disk.new)) }
+    ensures lease_sessions { OnLeases (map string_bytes words.now) (LeaseSessions result (stream S.left S.faults source.old source.new) (stream K.held K.faults sink.old sink.new) (store D.tells D.view D.counts disk.old disk.new)) }
+    ensures lease_disk { OnLeases (map string_bytes words.now) (LeaseStores result (stream S.left S.faults source.old source.new) (stream K.held K.faults sink.old sink.new) (store D.tells D.view D.counts disk.old disk.new)) }
+    ensures lease_complete { OnLeases (map string_bytes words.now) (LeaseComplete result (stream S.left S.faults source.old source.new) (stream K.held K.faults sink.old sink.new) (store D.tells D.view D.counts disk.old disk.new)) }
+    ensures lease_bytes { OnLeases (map string_bytes words.now) (LeaseBytes result (stream K.held K.faults sink.old sink.new)) }
     // What each form of words does.
     ensures usage { Asks (map string_bytes words.now) result }
     ensures untouched { TouchesNothing (map string_bytes words.now) (outside (stream S.left S.faults source.old source.new) (stream K.held K.faults sink.old sink.new) (store D.tells D.view D.counts disk.old disk.new)) (links N.faults N.bad N.ended faults_of net.old net.new spawner.old spawner.new) }
@@ -62,6 +72,7 @@ pub fn echo_main<R: Around + Eprint, S: Source, K: Sink, D: CrashDisk + Send, N:
     ensures soak { OnSoak (map string_bytes words.now) (DoesSoak result (stream S.left S.faults source.old source.new) (stream K.held K.faults sink.old sink.new) (store D.tells D.view D.counts disk.old disk.new)) }
     ensures serve { OnServe (map string_bytes words.now) (DoesServe result (outside (stream S.left S.faults source.old source.new) (stream K.held K.faults sink.old sink.new) (store D.tells D.view D.counts disk.old disk.new)) (links N.faults N.bad N.ended faults_of net.old net.new spawner.old spawner.new)) }
     ensures mount { OnMount (map string_bytes words.now) (DoesMount boot result (outside (stream S.left S.faults source.old source.new) (stream K.held K.faults sink.old sink.new) (store D.tells D.view D.counts disk.old disk.new)) (links N.faults N.bad N.ended faults_of net.old net.new spawner.old spawner.new)) }
+    ensures leases { OnLeases (map string_bytes words.now) (DoesLeases result (outside (stream S.left S.faults source.old source.new) (stream K.held K.faults sink.old sink.new) (store D.tells D.view D.counts disk.old disk.new))) }
     // Counts don't fall.
     ensures later { (S.faults source.old ≤ S.faults source.new) × (K.faults sink.old ≤ K.faults sink.new) }
     ensures counts { ((D.counts disk.old).faults ≤ (D.counts disk.new).faults) × ((D.counts disk.old).stops ≤ (D.counts disk.new).stops) }

@@ -1,6 +1,6 @@
 // How the program ends.
 ghost use Rattle.std.specs.Prelude.{◌≡◌};
-ghost use Rattle.ec_echo.specs.Statuses.{code, of_drill, of_mount};
+ghost use Rattle.ec_echo.specs.Statuses.{code, of_drill, of_leases, of_mount};
 
 /// How the program ends.
 #[derive(Clone, Copy, Debug, Drop, PartialEq, Eq)]
@@ -77,6 +77,24 @@ impl Status {
             ec_drill::Status::Spent => Status::Spent,
         }
     }
+
+    /// The program ends as its drill with leases does.
+    pub(crate) fn of_leases(status: ec_lease::drill::Status) -> Status
+        ensures { result ≡ of_leases status }
+    {
+        match status {
+            ec_lease::drill::Status::Done => Status::Done,
+            ec_lease::drill::Status::BadLine => Status::BadLine,
+            ec_lease::drill::Status::SourceFault => Status::SourceFault,
+            ec_lease::drill::Status::SinkFault => Status::SinkFault,
+            ec_lease::drill::Status::DiskFault => Status::DiskFault,
+            ec_lease::drill::Status::BadDisk => Status::BadDisk,
+            ec_lease::drill::Status::NoMemory => Status::NoMemory,
+            ec_lease::drill::Status::Limit => Status::Limit,
+            ec_lease::drill::Status::Spent => Status::Spent,
+        }
+    }
+
     /// The program ends as its mount does.
     pub(crate) fn of_mount(status: ec_mount::Status) -> Status
         ensures { result ≡ of_mount status }

@@ -6,6 +6,7 @@ const USAGE: &str = "usage:
   echofs check [N] < TRANSCRIPT    judge a transcript that began on a new disk with room for N objects
   echofs make N                    write the script of number N
   echofs soak N                    carry out the script of number N on the disk, and count its answers
+  echofs leases L E < SCRIPT       carry out a script with leases of length L, and clocks that differ by at most E
   echofs serve ADDR COUNT          serve the disk over TCP at ADDR, until COUNT links have come and gone
   echofs mount ADDR CLERK < LANES  carry out lanes as clerk A to P of the server at ADDR
 The manual is docs/echofs.1.

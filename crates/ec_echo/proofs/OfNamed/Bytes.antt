@@ -23,7 +23,7 @@ use Rattle.ec_echo.specs.OfNamed.Told.{BarsRun, EndsEarly, WroteNone}
 abbrev pub IsPart : List ℕ → Type 0
 IsPart part = (part ≡ []) ⊎ ((s : Shown) × IsCutFront (shown_text s) part)
 
-kept-none : (held now : Option (List ℕ)) → Keeps held now → Appends held now []
+pub kept-none : (held now : Option (List ℕ)) → Keeps held now → Appends held now []
 kept-none None now k = k
 kept-none (Some xs) None k = k
 kept-none (Some xs) (Some ys) k = k ∙ sym (append-nil xs)

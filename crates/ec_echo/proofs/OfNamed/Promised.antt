@@ -1,7 +1,8 @@
 -- Each clause follows from what the program does by its words, and all of that follows from the clauses.
 use Rattle.std.proofs.Common.{◌≡◌, ◌⊎◌, ℕ, List, [], ◌∷◌, ◌++◌, refl, ap, subst, ◌∙◌, inl, inr}
-use Rattle.std.specs.Prelude.{◌↔◌}
+use Rattle.std.specs.Prelude.{◌↔◌, false}
 use Rattle.std.proofs.Math.Logic.{∥∥₁_map}
+use Rattle.ec_base.proofs.Equalities.{true_false}
 use Rattle.ec_history.specs.History.{Base, Throughout}
 use Rattle.ec_history.specs.History as history
 use Rattle.ec_history.specs.Legal.{IsLegal, IsLegalNext}
@@ -23,6 +24,7 @@ use Rattle.ec_drill.proofs.OfPromise.Rooms.{drills-told}
 use Rattle.ec_drill.proofs.OfPromise.Spent.{drills-spent}
 use Rattle.ec_echo.specs.Echo.{Links}
 use Rattle.ec_echo.specs.Forms.{DoesForm, Echoes}
+use Rattle.ec_echo.specs.NetUse.{uses_net}
 use Rattle.ec_script.specs.OfGenerator.Generator.{script_of}
 use Rattle.ec_drill.specs.Limits.{most_objects}
 use Rattle.ec_echo.specs.Made.{made_lines}
@@ -30,13 +32,15 @@ use Rattle.ec_echo.specs.Soak.{IsUnmade}
 use Rattle.ec_echo.specs.SoakDrills.{Soaked}
 use Rattle.ec_echo.proofs.Plain.{made-plain}
 use Rattle.ec_echo.proofs.Soaks.{soaked_by}
-use Rattle.ec_echo.specs.Statuses.{code, of_drill, of_mount}
+use Rattle.ec_echo.specs.Statuses.{code, of_drill, of_leases, of_mount}
 use Rattle.ec_echo.specs.Words.{Spells}
 use Rattle.ec_echo.specs.declared.command.Command.{Command}
-use Rattle.ec_echo.specs.declared.command.Command.TheVariants.{Drill, Check, Make, Soak, Serve, Mount}
+use Rattle.ec_echo.specs.declared.command.Command.TheVariants.{Drill, Check, Make, Soak, Serve, Mount, Leases}
 use Rattle.ec_echo.specs.declared.status.Status.{Status}
 use Rattle.ec_echo.specs.declared.status.Status.TheVariants as status
 use Rattle.ec_echo.specs.OfNamed.Forms.{Asks, DoesCheck, DoesDrill, DoesMake, DoesMount, DoesServe, IsAlone, OnCheck, OnDrill, OnMake, OnMount, OnServe, OnSoak, TouchesNothing, outside}
+use Rattle.ec_echo.specs.OfNamed.Leases.{DoesLeases, LeaseBytes, LeaseCalls, LeaseHistory, LeaseLines, LeaseSessions, LeaseStores, OnLeases}
+use Rattle.ec_echo.specs.OfNamed.PlainLeases.{LeaseComplete}
 use Rattle.ec_echo.specs.OfNamed.Promises.{ExactReports, Fsync, History, IsExactAt, IsLawfulAt, IsPlainAt, LawfulLosses, LinesInPlace, OfEntries, PlainReplies, Room}
 use Rattle.ec_echo.specs.OfNamed.Runs.{Causes, Complete, OwnCalls, Sessions, Spent, Stores, Together, WriteBehind}
 use Rattle.ec_drill.specs.Seen.{Stream, Store}
@@ -44,6 +48,9 @@ use Rattle.ec_echo.specs.OfNamed.Soaks.{DoesSoak, SoaksOnce, made, transcribed}
 use Rattle.ec_echo.specs.OfNamed.States.{DiskOfCut, InOrder, Leaves, StatesInOrder}
 use Rattle.ec_echo.specs.OfNamed.Told.{OfLines, WroteLines, WroteNone}
 use Rattle.ec_echo.proofs.OfNamed.Facts.{Facts, facts}
+use Rattle.ec_echo.proofs.OfNamed.Leased.{lease-bytes, lease-calls, lease-history, lease-lines, lease-stores}
+use Rattle.ec_echo.proofs.OfNamed.LeaseSessions.{lease-sessions}
+use Rattle.ec_echo.proofs.OfNamed.PlainLeased.{lease-complete}
 use Rattle.ec_echo.proofs.OfNamed.Lines.{of-lines, wrote-lines}
 use Rattle.ec_echo.proofs.OfNamed.Runs.{cause, complete, end-as-asked, own-calls, spends-few, stored, together, writes-behind}
 use Rattle.ec_echo.proofs.OfNamed.Words.{spells-once}
@@ -83,18 +90,22 @@ module _ (boot : ℕ) (words : List (List ℕ)) (result : ℕ) (w : Outside) (n 
   pub does-mount : Did boot words result w n → OnMount words (DoesMount boot result w n)
   does-mount (st, is, did) c s = let d = does-of boot words st w n did (Mount c) s in (d.0, is ∙ ap code d.1, d.2, d.3, d.4, d.5)
 
+  pub does-leases : Did boot words result w n → OnLeases words (DoesLeases result w)
+  does-leases (st, is, did) l e s = let d = does-of boot words st w n did (Leases l e) s in (d.0.0, is ∙ ap code d.0.1, d.0.2)
+
   pub touches-nothing : Did boot words result w n → TouchesNothing words w n
   touches-nothing (st, is, inl none) no_form = (none.2, none.3)
   touches-nothing (st, is, inr did) no_form = absurd (no_form did.0 did.1)
 
   pub is-alone : Did boot words result w n → IsAlone words n
-  is-alone (st, is, inl none) no_serve no_mount = none.3
-  is-alone (st, is, inr (Drill most, s, does)) no_serve no_mount = does.1
-  is-alone (st, is, inr (Check most, s, does)) no_serve no_mount = does.1
-  is-alone (st, is, inr (Make k, s, does)) no_serve no_mount = does.1
-  is-alone (st, is, inr (Soak k, s, does)) no_serve no_mount = does.1
-  is-alone (st, is, inr (Serve k, s, does)) no_serve no_mount = absurd (no_serve k s)
-  is-alone (st, is, inr (Mount k, s, does)) no_serve no_mount = absurd (no_mount k s)
+  is-alone (st, is, inl none) no_net = none.3
+  is-alone (st, is, inr (Drill most, s, does)) no_net = does.1
+  is-alone (st, is, inr (Check most, s, does)) no_net = does.1
+  is-alone (st, is, inr (Make k, s, does)) no_net = does.1
+  is-alone (st, is, inr (Soak k, s, does)) no_net = does.1
+  is-alone (st, is, inr (Serve k, s, does)) no_net = absurd (true_false (no_net (Serve k) s))
+  is-alone (st, is, inr (Mount k, s, does)) no_net = absurd (true_false (no_net (Mount k) s))
+  is-alone (st, is, inr (Leases l e, s, does)) no_net = does.1
 
 -- The parts of a legal history.
 
@@ -225,6 +236,32 @@ module _ (boot : ℕ) (words : List (List ℕ)) (result : ℕ) (source sink : St
   pub has-left : OnDrill words (DiskOfCut result w)
   has-left most s = let d = does-drill boot words result w n did most s in (d.0, d.1, d.2, leaves most d.0 w d.2 (drills-lawful most d.0 w d.2))
 
+  -- A drill with leases.
+
+  on-leases : (P : ℕ → ℕ → Type 0) → ((l e : ℕ) → DoesLeases result w l e → P l e) → OnLeases words P
+  on-leases P from l e s = from l e (does-leases boot words result w n did l e s)
+
+  pub has-lease-history : OnLeases words (LeaseHistory result source sink store)
+  has-lease-history = on-leases (LeaseHistory result source sink store) (λ l e d. lease-history l e result source sink store d.0 d.1 d.2)
+
+  pub has-lease-lines : OnLeases words (LeaseLines result source sink store)
+  has-lease-lines = on-leases (LeaseLines result source sink store) (λ l e d. lease-lines l e result source sink store d.0 d.1 d.2)
+
+  pub has-lease-calls : OnLeases words (LeaseCalls result source sink store)
+  has-lease-calls = on-leases (LeaseCalls result source sink store) (λ l e d. lease-calls l e result source sink store d.0 d.1 d.2)
+
+  pub has-lease-sessions : OnLeases words (LeaseSessions result source sink store)
+  has-lease-sessions = on-leases (LeaseSessions result source sink store) (λ l e d. lease-sessions l e result source sink store d.0 d.1 d.2)
+
+  pub has-lease-disk : OnLeases words (LeaseStores result source sink store)
+  has-lease-disk = on-leases (LeaseStores result source sink store) (λ l e d. lease-stores l e result source sink store d.0 d.1 d.2)
+
+  pub has-lease-complete : OnLeases words (LeaseComplete result source sink store)
+  has-lease-complete l e s = let d = does-leases boot words result w n did l e s in lease-complete l e result ((s.3).1.0) source sink store d.0 d.1 d.2
+
+  pub has-lease-bytes : OnLeases words (LeaseBytes result sink)
+  has-lease-bytes = on-leases (LeaseBytes result sink) (λ l e d. lease-bytes l e result source sink store d.0 d.1 d.2)
+
   -- A soak.
 
   soaks-once : (number : ℕ) (st : Status) → Soaked number st w → SoaksOnce number st sink store ⊎ IsUnmade st w
@@ -250,10 +287,6 @@ module _ (boot : ℕ) (words : List (List ℕ)) (result : ℕ) (source sink : St
 
 -- And back: what the program does by its words follows from the clauses of the forms.
 
--- these words ask for no other form
-clash : (words : List (List ℕ)) (c d : Command) → (c ≡ d → ⊥) → Spells words c → Spells words d → ⊥
-clash words c d differ s t = differ (spells-once words c d s t)
-
 pub record AllForms (boot : ℕ) (words : List (List ℕ)) (result : ℕ) (source sink : Stream) (store : Store) (n : Links) : Type 0 where
   pub usage : Asks words result
   pub untouched : TouchesNothing words (outside source sink store) n
@@ -265,6 +298,7 @@ pub record AllForms (boot : ℕ) (words : List (List ℕ)) (result : ℕ) (sourc
   pub soak : OnSoak words (DoesSoak result source sink store)
   pub serve : OnServe words (DoesServe result (outside source sink store) n)
   pub mount : OnMount words (DoesMount boot result (outside source sink store) n)
+  pub leases : OnLeases words (DoesLeases result (outside source sink store))
 
 pub say-all : (boot : ℕ) (words : List (List ℕ)) (result : ℕ) (source sink : Stream) (store : Store) (n : Links) → AllForms boot words result source sink store n → Did boot words result (outside source sink store) n
 say-all boot words result source sink store n all = go all.usage
@@ -273,18 +307,19 @@ say-all boot words result source sink store n all = go all.usage
     soaked number st (inr unmade) = inr unmade
     soaked number st (inl s) = soaked_by number s.end st (outside source sink store) (script_of number made_lines) [] s.left_after s.transcript refl refl s.drilled_so s.told
 
-    -- it uses no net
-    no-net : (c : Command) → ((k : ℕ) → c ≡ Serve k → ⊥) → ((k : ℕ) → c ≡ Mount k → ⊥) → Spells words c → n.later ≡ n.before
-    no-net c no_serve no_mount s = all.alone (λ k t. clash words c (Serve k) (no_serve k) s t) (λ k t. clash words c (Mount k) (no_mount k) s t)
+    -- a command that uses no net leaves it
+    no-net : (c : Command) → uses_net c ≡ false → Spells words c → n.later ≡ n.before
+    no-net c none s = all.alone (λ d t. subst (λ (x : Command). uses_net x ≡ false) (spells-once words c d s t) none)
 
     go : Asks words result → Did boot words result (outside source sink store) n
     go (inl none) = (status.Usage, none.0, inl (refl, none.1, (all.untouched none.1).0, (all.untouched none.1).1))
     go (inr (other, Drill most, s)) =
         let d = all.drill most s in
         let lawful = drills-lawful most d.0 (outside source sink store) d.2 in
-        (of_drill d.0, d.1, inr (Drill most, s, ((d.0, refl, d.2, lawful, drills-complete most d.0 (outside source sink store) d.2 lawful, drills-told most d.0 (outside source sink store) d.2, drills-spent most d.0 (outside source sink store) d.2, all.claims), no-net (Drill most) (λ k e. cc) (λ k e. cc) s)))
-    go (inr (other, Check most, s)) = let d = all.check most s in (d.0, d.1, inr (Check most, s, ((d.2, d.3), no-net (Check most) (λ k e. cc) (λ k e. cc) s)))
-    go (inr (other, Make k, s)) = let d = all.make k s in (d.0, d.1, inr (Make k, s, ((d.2, d.3, d.4), no-net (Make k) (λ k e. cc) (λ k e. cc) s)))
-    go (inr (other, Soak k, s)) = let d = all.soak k s in (d.0, d.1, inr (Soak k, s, ((soaked k d.0 d.2, d.3), no-net (Soak k) (λ k e. cc) (λ k e. cc) s)))
+        (of_drill d.0, d.1, inr (Drill most, s, ((d.0, refl, d.2, lawful, drills-complete most d.0 (outside source sink store) d.2 lawful, drills-told most d.0 (outside source sink store) d.2, drills-spent most d.0 (outside source sink store) d.2, all.claims), no-net (Drill most) refl s)))
+    go (inr (other, Check most, s)) = let d = all.check most s in (d.0, d.1, inr (Check most, s, ((d.2, d.3), no-net (Check most) refl s)))
+    go (inr (other, Make k, s)) = let d = all.make k s in (d.0, d.1, inr (Make k, s, ((d.2, d.3, d.4), no-net (Make k) refl s)))
+    go (inr (other, Soak k, s)) = let d = all.soak k s in (d.0, d.1, inr (Soak k, s, ((soaked k d.0 d.2, d.3), no-net (Soak k) refl s)))
     go (inr (other, Serve k, s)) = let d = all.serve k s in (d.0, d.1, inr (Serve k, s, (d.2, d.3)))
     go (inr (other, Mount c, s)) = let d = all.mount c s in (of_mount d.0, d.1, inr (Mount c, s, (d.0, refl, d.2, d.3, d.4, d.5)))
+    go (inr (other, Leases l e, s)) = let d = all.leases l e s in (of_leases d.0, d.1, inr (Leases l e, s, ((d.0, refl, d.2), no-net (Leases l e) refl s)))

@@ -1,14 +1,28 @@
--- Words ask for one thing.
-use Rattle.std.proofs.Common.{◌≡◌, ◌+◌, ◌*◌, ◌-◌, ◌^◌, ◌<◌, ℕ, List, [], ◌∷◌, codes, sym, ap, subst, ◌∙◌, inl, inr, arith, lit<}
+-- Words ask for one thing: the command of a form is told by its first word, and its numbers by the others.
+use Rattle.std.proofs.Common.{◌≡◌, ◌+◌, ◌-◌, ◌^◌, ◌<◌, ◌≤◌, ◌==◌, ◌&&◌, if◌then◌else◌, ℕ, Bool, true, false, List, [], ◌∷◌, codes, sym, ap, subst, ◌∙◌, inl, inr, arith, lit<}
+use Rattle.std.specs.Str.Parse.{digits_value}
+use Rattle.std.proofs.lemmas.Fmt.{decimal_is_IsNumeral}
 use Rattle.ec_words.specs.Spelling.{IsNumberIn}
-use Rattle.ec_words.proofs.Numbers.{number_once}
-use Rattle.ec_echo.specs.Words.{IsNumbered, IsOfVolume, IsAddressed, IsOfClerk, Spells}
+use Rattle.ec_echo.specs.Words.{Spells}
 use Rattle.ec_echo.specs.declared.command.Command.{Command}
-use Rattle.ec_echo.specs.declared.command.Command.TheVariants.{Drill, Check, Make, Soak, Serve, Mount}
+use Rattle.ec_echo.specs.declared.command.Command.TheVariants.{Drill, Check, Make, Soak, Serve, Mount, Leases}
 
-first : List (List ℕ) → List ℕ
-first [] = []
-first (w ∷ ws) = w
+-- What words tell.
+
+-- the number of a word's digits
+value : List ℕ → ℕ
+value w = digits_value 10 w
+
+-- the clerk of a letter
+letter : List ℕ → ℕ
+letter [] = 0
+letter (b ∷ w) = b - 65
+
+-- how many objects: a form that doesn't say so has room for 1,024
+objects : List (List ℕ) → ℕ
+objects [] = 0
+objects (form ∷ []) = 1024
+objects (form ∷ w ∷ ws) = value w
 
 second : List (List ℕ) → List ℕ
 second (v ∷ w ∷ ws) = w
@@ -18,91 +32,62 @@ third : List (List ℕ) → List ℕ
 third (u ∷ v ∷ w ∷ ws) = w
 third _ = []
 
-hash : List ℕ → ℕ
-hash (a ∷ b ∷ more) = a * 256 + b
-hash _ = 0
+same : List ℕ → List ℕ → Bool
+same [] [] = true
+same (a ∷ v) (b ∷ w) = a == b && same v w
+same _ _ = false
 
-numbered-once : (text : List ℕ) (least most : ℕ) (words : List (List ℕ)) (a b : ℕ) → most < 2 ^ 64 → IsNumbered text least most words a → IsNumbered text least most words b → a ≡ b
-unfolding second
-numbered-once text least most words a b lt x y =
-    number_once x.0 least most least most a b lt lt x.2 (subst (λ w. IsNumberIn least most w b) (ap second (sym y.1 ∙ x.1)) y.2)
+-- the command whose form has this first word
+pick : List ℕ → List (List ℕ) → Command
+pick form words =
+    if same form (codes "drill") then Drill (objects words)
+    else if same form (codes "check") then Check (objects words)
+    else if same form (codes "make") then Make (value (second words))
+    else if same form (codes "soak") then Soak (value (second words))
+    else if same form (codes "serve") then Serve (value (third words))
+    else if same form (codes "mount") then Mount (letter (third words))
+    else Leases (value (second words)) (value (third words))
 
-volume-once : (text : List ℕ) (words : List (List ℕ)) (a b : ℕ) → IsOfVolume text words a → IsOfVolume text words b → a ≡ b
-volume-once text words a b (inl x) (inl y) = x.1 ∙ sym y.1
-volume-once text words a b (inl x) (inr y) = absurd (let e = sym x.0 ∙ y.1 in cc)
-volume-once text words a b (inr x) (inl y) = absurd (let e = sym y.0 ∙ x.1 in cc)
-volume-once text words a b (inr x) (inr y) = numbered-once text 32 1024 words a b (lit< tt) x y
+asked : List (List ℕ) → Command
+asked [] = Drill 0
+asked (form ∷ words) = pick form (form ∷ words)
 
-addressed-once : (text : List ℕ) (least most : ℕ) (words : List (List ℕ)) (a b : ℕ) → most < 2 ^ 64 → IsAddressed text least most words a → IsAddressed text least most words b → a ≡ b
-unfolding third
-addressed-once text least most words a b lt x y =
-    number_once x.1 least most least most a b lt lt x.4 (subst (λ w. IsNumberIn least most w b) (ap third (sym y.2 ∙ x.2)) y.4)
+value-of : (w : List ℕ) (least most n : ℕ) → most < 2 ^ 64 → IsNumberIn least most w n → value w ≡ n
+unfolding value
+value-of w least most n lt x = ap value x.0 ∙ (decimal_is_IsNumeral n (omega (arith, lt, x.1.1))).1
 
-clerk-once : (text : List ℕ) (words : List (List ℕ)) (a b : ℕ) → IsOfClerk text words a → IsOfClerk text words b → a ≡ b
-unfolding third first
-clerk-once text words a b x y =
-    let e : 65 + a ≡ 65 + b = ap (λ w. head w) (sym x.4.0 ∙ ap third (sym x.2 ∙ y.2) ∙ y.4.0) in
-    omega (arith, e)
+letter-of : (w : List ℕ) (c : ℕ) → w ≡ (65 + c) ∷ [] → letter w ≡ c
+unfolding letter
+letter-of w c e = ap letter e ∙ less c
   where
-    head : List ℕ → ℕ
-    head [] = 0
-    head (n ∷ ns) = n
+    less : (c : ℕ) → (65 + c) - 65 ≡ c
+    less c = omega arith
 
--- what the first word tells
-number : Command → ℕ
-number (Drill n) = 25714
-number (Check n) = 25448
-number (Make n) = 28001
-number (Soak n) = 29551
-number (Serve n) = 29541
-number (Mount n) = 28015
+-- one less than a number within a million
+below : (n : ℕ) → n ≤ 1000000 → n - 1 < 2 ^ 64
+below n le = let big : 1000000 < 2 ^ 64 = lit< tt in omega (arith, le, big)
 
-numbered : (words : List (List ℕ)) (c : Command) → Spells words c → hash (first words) ≡ number c
-unfolding hash first number
-numbered words (Drill n) (inl x) = ap (λ ws. hash (first ws)) x.0
-numbered words (Drill n) (inr x) = ap (λ ws. hash (first ws)) x.1
-numbered words (Check n) (inl x) = ap (λ ws. hash (first ws)) x.0
-numbered words (Check n) (inr x) = ap (λ ws. hash (first ws)) x.1
-numbered words (Make n) x = ap (λ ws. hash (first ws)) x.1
-numbered words (Soak n) x = ap (λ ws. hash (first ws)) x.1
-numbered words (Serve n) x = ap (λ ws. hash (first ws)) x.2
-numbered words (Mount n) x = ap (λ ws. hash (first ws)) x.2
+-- words ask for what they tell
+spelled : (words : List (List ℕ)) (c : Command) → Spells words c → asked words ≡ c
+unfolding asked pick same objects second third value letter
+spelled words (Drill n) (inl x) = ap asked x.0 ∙ ap Drill (sym x.1)
+spelled words (Drill n) (inr x) = ap asked x.1 ∙ ap Drill (value-of x.0 32 1024 n (lit< tt) x.2)
+spelled words (Check n) (inl x) = ap asked x.0 ∙ ap Check (sym x.1)
+spelled words (Check n) (inr x) = ap asked x.1 ∙ ap Check (value-of x.0 32 1024 n (lit< tt) x.2)
+spelled words (Make n) x = ap asked x.1 ∙ ap Make (value-of x.0 0 (2 ^ 32 - 1) n (lit< tt) x.2)
+spelled words (Soak n) x = ap asked x.1 ∙ ap Soak (value-of x.0 0 (2 ^ 32 - 1) n (lit< tt) x.2)
+spelled words (Serve n) x = ap asked x.2 ∙ ap Serve (value-of x.1 1 1000000 n (lit< tt) x.4)
+spelled words (Mount c) x = ap asked x.2 ∙ ap Mount (letter-of x.1 c x.4.0)
+spelled words (Leases l e) x = ap asked x.2 ∙ ap (λ n. Leases n (value x.1)) (value-of x.0 1 1000000 l (lit< tt) x.3) ∙ ap (Leases l) (value-of x.1 0 (l - 1) e (below l x.3.1.1) x.4)
 
 pub spells-once : (words : List (List ℕ)) (c d : Command) → Spells words c → Spells words d → c ≡ d
-unfolding number
-spells-once words (Drill a) (Drill b) s t = ap Drill (volume-once (codes "drill") words a b s t)
-spells-once words (Drill a) (Check b) s t = absurd (let e : 25714 ≡ 25448 = sym (numbered words (Drill a) s) ∙ numbered words (Check b) t in omega (arith, e))
-spells-once words (Drill a) (Make b) s t = absurd (let e : 25714 ≡ 28001 = sym (numbered words (Drill a) s) ∙ numbered words (Make b) t in omega (arith, e))
-spells-once words (Drill a) (Soak b) s t = absurd (let e : 25714 ≡ 29551 = sym (numbered words (Drill a) s) ∙ numbered words (Soak b) t in omega (arith, e))
-spells-once words (Drill a) (Serve b) s t = absurd (let e : 25714 ≡ 29541 = sym (numbered words (Drill a) s) ∙ numbered words (Serve b) t in omega (arith, e))
-spells-once words (Drill a) (Mount b) s t = absurd (let e : 25714 ≡ 28015 = sym (numbered words (Drill a) s) ∙ numbered words (Mount b) t in omega (arith, e))
-spells-once words (Check a) (Drill b) s t = absurd (let e : 25448 ≡ 25714 = sym (numbered words (Check a) s) ∙ numbered words (Drill b) t in omega (arith, e))
-spells-once words (Check a) (Check b) s t = ap Check (volume-once (codes "check") words a b s t)
-spells-once words (Check a) (Make b) s t = absurd (let e : 25448 ≡ 28001 = sym (numbered words (Check a) s) ∙ numbered words (Make b) t in omega (arith, e))
-spells-once words (Check a) (Soak b) s t = absurd (let e : 25448 ≡ 29551 = sym (numbered words (Check a) s) ∙ numbered words (Soak b) t in omega (arith, e))
-spells-once words (Check a) (Serve b) s t = absurd (let e : 25448 ≡ 29541 = sym (numbered words (Check a) s) ∙ numbered words (Serve b) t in omega (arith, e))
-spells-once words (Check a) (Mount b) s t = absurd (let e : 25448 ≡ 28015 = sym (numbered words (Check a) s) ∙ numbered words (Mount b) t in omega (arith, e))
-spells-once words (Make a) (Drill b) s t = absurd (let e : 28001 ≡ 25714 = sym (numbered words (Make a) s) ∙ numbered words (Drill b) t in omega (arith, e))
-spells-once words (Make a) (Check b) s t = absurd (let e : 28001 ≡ 25448 = sym (numbered words (Make a) s) ∙ numbered words (Check b) t in omega (arith, e))
-spells-once words (Make a) (Make b) s t = ap Make (numbered-once (codes "make") 0 (2 ^ 32 - 1) words a b (lit< tt) s t)
-spells-once words (Make a) (Soak b) s t = absurd (let e : 28001 ≡ 29551 = sym (numbered words (Make a) s) ∙ numbered words (Soak b) t in omega (arith, e))
-spells-once words (Make a) (Serve b) s t = absurd (let e : 28001 ≡ 29541 = sym (numbered words (Make a) s) ∙ numbered words (Serve b) t in omega (arith, e))
-spells-once words (Make a) (Mount b) s t = absurd (let e : 28001 ≡ 28015 = sym (numbered words (Make a) s) ∙ numbered words (Mount b) t in omega (arith, e))
-spells-once words (Soak a) (Drill b) s t = absurd (let e : 29551 ≡ 25714 = sym (numbered words (Soak a) s) ∙ numbered words (Drill b) t in omega (arith, e))
-spells-once words (Soak a) (Check b) s t = absurd (let e : 29551 ≡ 25448 = sym (numbered words (Soak a) s) ∙ numbered words (Check b) t in omega (arith, e))
-spells-once words (Soak a) (Make b) s t = absurd (let e : 29551 ≡ 28001 = sym (numbered words (Soak a) s) ∙ numbered words (Make b) t in omega (arith, e))
-spells-once words (Soak a) (Soak b) s t = ap Soak (numbered-once (codes "soak") 0 (2 ^ 32 - 1) words a b (lit< tt) s t)
-spells-once words (Soak a) (Serve b) s t = absurd (let e : 29551 ≡ 29541 = sym (numbered words (Soak a) s) ∙ numbered words (Serve b) t in omega (arith, e))
-spells-once words (Soak a) (Mount b) s t = absurd (let e : 29551 ≡ 28015 = sym (numbered words (Soak a) s) ∙ numbered words (Mount b) t in omega (arith, e))
-spells-once words (Serve a) (Drill b) s t = absurd (let e : 29541 ≡ 25714 = sym (numbered words (Serve a) s) ∙ numbered words (Drill b) t in omega (arith, e))
-spells-once words (Serve a) (Check b) s t = absurd (let e : 29541 ≡ 25448 = sym (numbered words (Serve a) s) ∙ numbered words (Check b) t in omega (arith, e))
-spells-once words (Serve a) (Make b) s t = absurd (let e : 29541 ≡ 28001 = sym (numbered words (Serve a) s) ∙ numbered words (Make b) t in omega (arith, e))
-spells-once words (Serve a) (Soak b) s t = absurd (let e : 29541 ≡ 29551 = sym (numbered words (Serve a) s) ∙ numbered words (Soak b) t in omega (arith, e))
-spells-once words (Serve a) (Serve b) s t = ap Serve (addressed-once (codes "serve") 1 1000000 words a b (lit< tt) s t)
-spells-once words (Serve a) (Mount b) s t = absurd (let e : 29541 ≡ 28015 = sym (numbered words (Serve a) s) ∙ numbered words (Mount b) t in omega (arith, e))
-spells-once words (Mount a) (Drill b) s t = absurd (let e : 28015 ≡ 25714 = sym (numbered words (Mount a) s) ∙ numbered words (Drill b) t in omega (arith, e))
-spells-once words (Mount a) (Check b) s t = absurd (let e : 28015 ≡ 25448 = sym (numbered words (Mount a) s) ∙ numbered words (Check b) t in omega (arith, e))
-spells-once words (Mount a) (Make b) s t = absurd (let e : 28015 ≡ 28001 = sym (numbered words (Mount a) s) ∙ numbered words (Make b) t in omega (arith, e))
-spells-once words (Mount a) (Soak b) s t = absurd (let e : 28015 ≡ 29551 = sym (numbered words (Mount a) s) ∙ numbered words (Soak b) t in omega (arith, e))
-spells-once words (Mount a) (Serve b) s t = absurd (let e : 28015 ≡ 29541 = sym (numbered words (Mount a) s) ∙ numbered words (Serve b) t in omega (arith, e))
-spells-once words (Mount a) (Mount b) s t = ap Mount (clerk-once (codes "mount") words a b s t)
+spells-once words c d s t = sym (spelled words c s) ∙ spelled words d t
+
+-- words of leases whose second number is within no limits ask for nothing
+pub no-most : (a b : List ℕ) (n : ℕ) → IsNumberIn 1 1000000 a n → ((e : ℕ) → IsNumberIn 0 (n - 1) b e → ⊥) → (c : Command) → Spells (codes "leases" ∷ a ∷ b ∷ []) c → ⊥
+unfolding asked pick same second third value
+no-most a b n is none c s =
+    let words : List (List ℕ) = codes "leases" ∷ a ∷ b ∷ [] in
+    let t : Spells words (Leases (value a) (value b)) = subst (λ (d : Command). Spells words d) (sym (spelled words c s)) s in
+    let last : IsNumberIn 0 (value a - 1) b (value b) = subst (λ (w : List ℕ). IsNumberIn 0 (value a - 1) w (value b)) (sym (ap third t.2)) t.4 in
+    none (value b) (subst (λ (k : ℕ). IsNumberIn 0 (k - 1) b (value b)) (value-of a 1 1000000 n (lit< tt) is) last)

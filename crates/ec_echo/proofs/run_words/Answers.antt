@@ -1,5 +1,5 @@
 use Rattle.std.proofs.Common.{refl, inl, inr}
-use Rattle.ec_echo.specs.declared.command.Command.TheVariants.{Drill, Check, Make, Soak, Serve, Mount}
+use Rattle.ec_echo.specs.declared.command.Command.TheVariants.{Drill, Check, Make, Soak, Serve, Mount, Leases}
 use Rattle.ec_echo.specs.declared.status.Status.TheVariants as status
 use Rattle.ec_echo.specs.OfNamed.Seen.{stream}
 use Rattle.ec_drill.proofs.OfPromise.Completes.{drills-complete}
@@ -65,3 +65,10 @@ returns-in-Mount-clause-usage g c = answers-usage _ _ _ _ _ (returns-in-Mount-cl
 
 pub returns-in-Mount-clause-net : goal.returns-in-Mount-clause-net
 returns-in-Mount-clause-net g c = (c.mount.ensures.later.2, starts_later c.mount.result _ _ c.mount.ensures.starts)
+
+pub returns-in-Leases-clause-echoes : goal.returns-in-Leases-clause-echoes
+returns-in-Leases-clause-echoes g c =
+    (c.of_leases.result, c.code-in-Leases.ensures, inr (Leases c.in-Leases.length c.in-Leases.most, rw c.in-Leases.is at c.in-Some.ensures, ((c.lease_drill.result, c.of_leases.ensures, c.lease_drill.ensures.drilled), refl)))
+
+pub returns-in-Leases-clause-usage : goal.returns-in-Leases-clause-usage
+returns-in-Leases-clause-usage g c = answers-usage _ _ _ _ _ (returns-in-Leases-clause-echoes g c)

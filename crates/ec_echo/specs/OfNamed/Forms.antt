@@ -1,5 +1,5 @@
 -- What the words ask for, and what each form of them does.
-use Rattle.std.specs.Prelude.{◌≡◌, ◌⊎◌, ◌-◌, ◌^◌, ℕ, List, codes}
+use Rattle.std.specs.Prelude.{◌≡◌, ◌⊎◌, ◌-◌, ◌^◌, ℕ, false, List, codes}
 use Rattle.ec_drill.specs.Drill.{Outside, Drilled, IsDiskUntouched}
 use Rattle.ec_drill.specs.declared.status.Status as drilled
 use Rattle.ec_link.specs.Nets.{Ended}
@@ -7,12 +7,12 @@ use Rattle.ec_mount.specs.Mount.{Mounts, StartsAs}
 use Rattle.ec_mount.specs.declared.status.Status as mounted
 use Rattle.ec_echo.specs.Check.{Judged}
 use Rattle.ec_echo.specs.Greeting.{Greets}
+use Rattle.ec_echo.specs.NetUse.{uses_net}
 use Rattle.ec_echo.specs.Serving.{Served}
 use Rattle.ec_echo.specs.Echo.{Made, IsSourceUntouched, IsUntouched, Links, serving, mounting}
 use Rattle.ec_echo.specs.Statuses.{code, of_drill, of_mount}
 use Rattle.ec_echo.specs.Words.{IsNumbered, IsOfVolume, IsAddressed, IsOfClerk, Spells}
 use Rattle.ec_echo.specs.declared.command.Command.{Command}
-use Rattle.ec_echo.specs.declared.command.Command.TheVariants.{Serve, Mount}
 use Rattle.ec_echo.specs.declared.status.Status.{Status}
 use Rattle.ec_drill.specs.Seen.{Stream, Store}
 
@@ -75,6 +75,6 @@ DoesMount boot result w n c = (end : mounted.Status) × (result ≡ code (of_mou
 abbrev pub TouchesNothing : List (List ℕ) → Outside → Links → Type 0
 TouchesNothing words w n = ((c : Command) → Spells words c → ⊥) → IsUntouched w × (n.later ≡ n.before)
 
--- the net and who starts threads are used by servers and mounts alone
+-- the net and who starts threads are left as they were by words whose command doesn't use them
 abbrev pub IsAlone : List (List ℕ) → Links → Type 0
-IsAlone words n = ((count : ℕ) → Spells words (Serve count) → ⊥) → ((c : ℕ) → Spells words (Mount c) → ⊥) → n.later ≡ n.before
+IsAlone words n = ((c : Command) → Spells words c → uses_net c ≡ false) → n.later ≡ n.before

@@ -27,5 +27,6 @@ returns-clause-echoes g c =
       soak = e.soak;
       serve = e.serve;
       mount = e.mount;
+      leases = e.leases;
     }) in
     (did.0, c.end.ensures ∙ did.1, did.2)

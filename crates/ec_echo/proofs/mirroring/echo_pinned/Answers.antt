@@ -35,6 +35,7 @@ returns-clause-promised g c =
         disk = e.disk;
         statuses = e.statuses;
       };
+      leases = record { lease_history = e.lease_history; lease_lines = e.lease_lines; lease_calls = e.lease_calls; lease_sessions = e.lease_sessions; lease_disk = e.lease_disk; lease_complete = e.lease_complete; lease_bytes = e.lease_bytes };
       forms = record {
         usage = e.usage;
         untouched = e.untouched;
@@ -48,5 +49,6 @@ returns-clause-promised g c =
         soak = e.soak;
         serve = e.serve;
         mount = e.mount;
+        leases = e.leases;
       };
     })

@@ -33,6 +33,7 @@ returns-then-not-use_disk-clause-diskless g c none =
         disk = e.disk;
         statuses = e.statuses;
       };
+      leases = record { lease_history = e.lease_history; lease_lines = e.lease_lines; lease_calls = e.lease_calls; lease_sessions = e.lease_sessions; lease_disk = e.lease_disk; lease_complete = e.lease_complete; lease_bytes = e.lease_bytes };
       forms = record {
         usage = e.usage;
         untouched = e.untouched;
@@ -46,6 +47,7 @@ returns-then-not-use_disk-clause-diskless g c none =
         soak = e.soak;
         serve = e.serve;
         mount = e.mount;
+        leases = e.leases;
       };
     }
 

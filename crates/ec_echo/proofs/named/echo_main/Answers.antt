@@ -1,5 +1,5 @@
 use Rattle.ec_machine_laws.proofs.OfNodeLaws.Claims.{claims-first}
-use Rattle.ec_echo.proofs.OfNamed.Promised.{are-in-order, are-placed, asks, covers-fsync, does-check, does-drill, does-make, does-mount, does-serve, does-soak, has-bytes, has-causes, has-history, has-left, has-losses, has-own, has-replies, has-reports, has-sessions, is-alone, is-behind, is-complete, is-stored, is-together, tells-room, tells-spent, touches-nothing}
+use Rattle.ec_echo.proofs.OfNamed.Promised.{are-in-order, are-placed, asks, covers-fsync, does-check, does-drill, does-leases, does-make, does-mount, does-serve, does-soak, has-bytes, has-causes, has-history, has-lease-bytes, has-lease-calls, has-lease-complete, has-lease-disk, has-lease-history, has-lease-lines, has-lease-sessions, has-left, has-losses, has-own, has-replies, has-reports, has-sessions, is-alone, is-behind, is-complete, is-stored, is-together, tells-room, tells-spent, touches-nothing}
 use Rattle.ec_echo.specs.OfNamed.Seen.{stream, store}
 use Rattle.ec_echo.proofs.named.echo_main.Goals as goal
 
@@ -124,3 +124,41 @@ returns-clause-alone g c = is-alone _ _ _ _ _ c.run_words.ensures.echoes
 
 pub returns-clause-claims : goal.returns-clause-claims
 returns-clause-claims g c = claims-first
+
+pub returns-clause-lease_history : goal.returns-clause-lease_history
+returns-clause-lease_history g c =
+    has-lease-history _ _ _ (stream g.S.Source.left g.S.Source.faults c.args.source.now c.run_words.new.source) (stream g.K.Sink.held g.K.Sink.faults c.args.sink.now c.run_words.new.sink)
+    (store g.D.Disk.tells g.D.Disk.view g.D.Disk.counts c.args.disk.now c.run_words.new.disk) _ c.run_words.ensures.echoes
+
+pub returns-clause-lease_lines : goal.returns-clause-lease_lines
+returns-clause-lease_lines g c =
+    has-lease-lines _ _ _ (stream g.S.Source.left g.S.Source.faults c.args.source.now c.run_words.new.source) (stream g.K.Sink.held g.K.Sink.faults c.args.sink.now c.run_words.new.sink)
+    (store g.D.Disk.tells g.D.Disk.view g.D.Disk.counts c.args.disk.now c.run_words.new.disk) _ c.run_words.ensures.echoes
+
+pub returns-clause-lease_calls : goal.returns-clause-lease_calls
+returns-clause-lease_calls g c =
+    has-lease-calls _ _ _ (stream g.S.Source.left g.S.Source.faults c.args.source.now c.run_words.new.source) (stream g.K.Sink.held g.K.Sink.faults c.args.sink.now c.run_words.new.sink)
+    (store g.D.Disk.tells g.D.Disk.view g.D.Disk.counts c.args.disk.now c.run_words.new.disk) _ c.run_words.ensures.echoes
+
+pub returns-clause-lease_sessions : goal.returns-clause-lease_sessions
+returns-clause-lease_sessions g c =
+    has-lease-sessions _ _ _ (stream g.S.Source.left g.S.Source.faults c.args.source.now c.run_words.new.source) (stream g.K.Sink.held g.K.Sink.faults c.args.sink.now c.run_words.new.sink)
+    (store g.D.Disk.tells g.D.Disk.view g.D.Disk.counts c.args.disk.now c.run_words.new.disk) _ c.run_words.ensures.echoes
+
+pub returns-clause-lease_disk : goal.returns-clause-lease_disk
+returns-clause-lease_disk g c =
+    has-lease-disk _ _ _ (stream g.S.Source.left g.S.Source.faults c.args.source.now c.run_words.new.source) (stream g.K.Sink.held g.K.Sink.faults c.args.sink.now c.run_words.new.sink)
+    (store g.D.Disk.tells g.D.Disk.view g.D.Disk.counts c.args.disk.now c.run_words.new.disk) _ c.run_words.ensures.echoes
+
+pub returns-clause-lease_complete : goal.returns-clause-lease_complete
+returns-clause-lease_complete g c =
+    has-lease-complete _ _ _ (stream g.S.Source.left g.S.Source.faults c.args.source.now c.run_words.new.source) (stream g.K.Sink.held g.K.Sink.faults c.args.sink.now c.run_words.new.sink)
+    (store g.D.Disk.tells g.D.Disk.view g.D.Disk.counts c.args.disk.now c.run_words.new.disk) _ c.run_words.ensures.echoes
+
+pub returns-clause-lease_bytes : goal.returns-clause-lease_bytes
+returns-clause-lease_bytes g c =
+    has-lease-bytes _ _ _ (stream g.S.Source.left g.S.Source.faults c.args.source.now c.run_words.new.source) (stream g.K.Sink.held g.K.Sink.faults c.args.sink.now c.run_words.new.sink)
+    (store g.D.Disk.tells g.D.Disk.view g.D.Disk.counts c.args.disk.now c.run_words.new.disk) _ c.run_words.ensures.echoes
+
+pub returns-clause-leases : goal.returns-clause-leases
+returns-clause-leases g c = does-leases _ _ _ _ _ c.run_words.ensures.echoes
