@@ -5,7 +5,7 @@ Usage: examples/chart.py < TRANSCRIPT > PICTURE.svg    or    examples/chart.py T
 Each clerk has a column: a bar is a call, pale while it waits, with what was answered below what was asked; a cross is a crash. A thread hangs from each
 operation at the column's edge, down to where it became durable (green) or was lost (red, with a cross), and the operation's bar has that colour; a thread that
 reaches the end is neither. Dots lead on from a loss to each answer that reports it, which has dots around it. The last column is the server: its durable lines,
-where it stopped and started, grey while it's down, and which sessions it ended. What is in a picture is told below its columns."""
+where it stopped and started, grey while it's down, which sessions it ended, and which it didn't end yet. What is in a picture is told below its columns."""
 import re
 import sys
 from html import escape
@@ -140,6 +140,8 @@ class Chart:
             self.notes.append((row, line, "lost" if numbers_of(words[3:]) else "ink"))
         elif words[0] == "told":
             self.clerk(words[1]).told.append((row, line))
+        elif words[0] == "held":
+            self.notes.append((row, line, "refused"))
         elif line == "stopped":
             self.down_since = row
             self.notes.append((row, line, "ink"))

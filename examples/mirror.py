@@ -52,14 +52,15 @@ def are_alike(folder):
 
 
 def same_transcripts(room):
-    """Each example of a drill without further words, over two empty disks."""
+    """Each example of a drill, with leases or without, over two empty disks."""
     for script in sorted(glob.glob(f"{here}/*.script")):
         name = script.removesuffix(".script")
-        if os.path.exists(f"{name}.args"):
+        words = read(f"{name}.args").decode().splitlines() if os.path.exists(f"{name}.args") else ["drill"]
+        if words[:1] != ["leases"] and words != ["drill"]:
             continue
         folder = tempfile.mkdtemp(dir=room)
         write(folder, SECOND)
-        did = run(folder, read(script))
+        did = run(folder, read(script), *words)
         wanted = int(read(f"{name}.status"))
         check(os.path.basename(name), (did.returncode, did.stdout) == (wanted, read(f"{name}.expected")), f"status {did.returncode}, or another transcript: {did.stderr}")
         if os.path.getsize(os.path.join(folder, FIRST)):

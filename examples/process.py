@@ -23,7 +23,7 @@ DISK = "echofs.disk"
 FIRST_SLOT = 4329472
 
 CLOSED = {"input": "<&-", "output": ">&-", "error": "2>&-"}
-FORMS = ["drill", "check", "make", "soak", "serve", "mount"]
+FORMS = ["drill", "check", "make", "soak", "leases", "serve", "mount"]
 
 WRITES = b"A create /f\nA write /f 0 hi\nA fsync /f\n"
 WROTE = b"3 A fsync /f -> ok\n"

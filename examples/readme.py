@@ -6,7 +6,7 @@ Usage: examples/readme.py PROGRAM    the blocks ```sh, all by one shell, with th
 The block ```sh look has to show the drill's script and the transcript that README reads.
 
 The shell has to end with status 0. The transcript that README reads line by line has to be the one that the drill wrote, the answers that README
-quotes of the mounts have to come, the next drill has to find an empty file, and the pictures that README shows have to be those of the examples."""
+quotes of the mounts have to come, the next drill has to find an empty file, and the pictures have to be those of the examples."""
 import os
 import re
 import signal
@@ -46,8 +46,8 @@ def run(commands, folder, wait):
 
 
 def pictures():
-    """What is wrong with the pictures that README shows."""
-    for name in re.findall(r"docs/pictures/(\w+)\.svg", read("README.md")):
+    """What is wrong with the pictures."""
+    for name in sorted(re.findall(r"(\w+)\.svg", " ".join(os.listdir(os.path.join(ROOT, "docs/pictures"))))):
         chart = [sys.executable, os.path.join(ROOT, "examples/chart.py"), os.path.join(ROOT, f"examples/{name}.expected")]
         if read(f"docs/pictures/{name}.svg") != subprocess.run(chart, capture_output=True, text=True, timeout=WAIT, check=True).stdout:
             yield f"docs/pictures/{name}.svg isn't what examples/chart.py draws of examples/{name}.expected"

@@ -156,6 +156,24 @@ DRILLS = [
     ),
 ]
 
+# Scripts with leases of 100 ticks, and clocks that differ by at most 10: a clerk whose lease is over and holds its call, and a lease that comes late.
+LEASED = [
+    (
+        "A create /f\ncut A\nA write /f 0 x\nend A\ntick 109\nA read /f 0 9\nend A\ntick 1\nend A\nB stat /f\nuncut A\nA stat /f\n",
+        "1 A create /f -> waits\n1 A create /f -> ok op 1\n3 A write /f 0 x -> ok op 2\nheld A 110\n6 A read /f 0 9 -> waits\nheld A 110\nended A lost 1 2\n"
+        "10 B stat /f -> waits\n10 B stat /f -> refused NotFound 1\ntold A lost 1 2\n6 A read /f 0 9 -> lost 1\n12 A stat /f -> refused NotFound 1\n",
+    ),
+    (
+        "A create /f\ncut A\ntick 60\ngrant A\ntick 50\nA touch /f 7\nend A\nhand A 2\n",
+        "1 A create /f -> waits\n1 A create /f -> ok op 1\n6 A touch /f 7 -> waits\nheld A 170\n6 A touch /f 7 -> ok op 2\n",
+    ),
+    ("grant A\nA create /f\n", "none\n2 A create /f -> waits\n2 A create /f -> ok op 1\n"),
+]
+
+# Lines that no script with such leases has, and the columns at which they're bad; a drill has none of the four kinds.
+NO_LEASES = [("tick 0", 6), ("tick 1000001", 6), ("tick", 5), ("skew A 21", 8), ("skew A", 7), ("grant Q", 7), ("grant A 1", 9), ("hand A 1", 8), ("held A 110", 1)]
+NO_WORDS = [["leases"], ["leases", "100"], ["leases", "10", "10"], ["leases", "0", "0"], ["leases", "1000001", "1"], ["leases", "010", "1"], ["leases", "10", "1", "1"]]
+
 # The numbers of scripts that are made, their first lines, how many bytes they have, and the sum of these.
 MADE = [
     (
@@ -187,6 +205,17 @@ def failures():
     for line, column in NO_CALLS:
         found = ran(["drill"], line)
         yield "" if found == (f"bad 1 col {column}\n", STATUS["bad"]) else f"drill of {line!r}: {found}"
+    for script, transcript in LEASED:
+        found = ran(["leases", "100", "10"], script)
+        yield "" if found == (transcript, 0) else f"leases of {script!r}: {found}"
+    for line, column in NO_LEASES:
+        found = ran(["leases", "100", "10"], line)
+        yield "" if found == (f"bad 1 col {column}\n", STATUS["bad"]) else f"leases of {line!r}: {found}"
+        found = ran(["drill"], line)
+        yield "" if found == ("bad 1 col 1\n", STATUS["bad"]) else f"drill of {line!r}: {found}"
+    for words in NO_WORDS:
+        found = ran(words, "")
+        yield "" if found == ("", 2) else f"{words}: {found}"
     for line in NO_LANES:
         text, status = ran(["mount", "127.0.0.1:1", "A"], line)
         yield "" if text.startswith("bad 1 col ") and status == STATUS["bad"] else f"mount of {line!r}: {(text, status)}"
