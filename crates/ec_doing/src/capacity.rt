@@ -5,7 +5,7 @@ ghost use Rattle.ec_doing.specs.Seen.{Does, send_numbers};
 
 use crate::doing::Doing;
 use ec_base::{Hold, NoMemory, ObjId};
-use ec_holdings::on_objects;
+use crate::holdings::on_objects;
 
 impl Doing {
     /// Gives back what is beyond the capacity.

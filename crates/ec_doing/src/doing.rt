@@ -5,7 +5,7 @@ ghost use Rattle.ec_doing.specs.Seen.{doing_of, Does};
 
 use ec_base::{Age, ClerkId, List, NoMemory, ObjId, OpNo, SessionNo};
 use ec_cache::Cache;
-use ec_holdings::Ledger;
+use crate::holdings::Ledger;
 use ec_protocol::{Out, Recalled, Wanted};
 use ec_wire::Msg;
 use std::alloc::Global;

@@ -6,6 +6,7 @@ mod capacity;
 mod deliveries;
 mod doing;
 mod endings;
+pub mod holdings;
 mod messages;
 mod pushes;
 mod recalls;

@@ -9,7 +9,7 @@ use crate::doing::Doing;
 use ec_base::{Age, Hold, List, NoMemory, ObjId, SessionNo};
 use ec_cache::resolve::Verdict;
 use ec_history::Answer;
-use ec_holdings::{forget_numbers, mark_recall, run_from, take_each, use_all};
+use crate::holdings::{forget_numbers, mark_recall, run_from, take_each, use_all};
 use ec_plain::Call;
 use ec_protocol::{Out, Recalled, Waiting};
 use ec_volume::Image;

@@ -7,7 +7,7 @@ ghost use Rattle.ec_doing.specs.Seen.{claim_all, clerk_with, doing_of, Does};
 use crate::doing::Doing;
 use ec_base::{Hold, NoMemory, ObjId};
 use ec_cache::resolve::Verdict;
-use ec_holdings::batch_numbers;
+use crate::holdings::batch_numbers;
 use ec_plain::Call;
 use ec_protocol::Waiting;
 

@@ -12,7 +12,7 @@ use crate::doing::{Doing, Tried};
 use ec_base::{List, NoMemory, ObjId, OpNo};
 use ec_cache::resolve::{Verdict, evaluate};
 use ec_history::Answer;
-use ec_holdings::{awaited, is_owing, less_id, suits, use_all};
+use crate::holdings::{awaited, is_owing, less_id, suits, use_all};
 use ec_log::{Asked, MAX_UNDURABLE};
 use ec_plain::{Call, Outcome, Reply};
 use ec_protocol::{Out, Waiting};

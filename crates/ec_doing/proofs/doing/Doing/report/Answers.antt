@@ -1,8 +1,8 @@
 use Rattle.std.proofs.Common.{ap, ◌∙◌}
 use Rattle.std.specs.Prelude.{not}
 use Rattle.ec_volume.specs.Update.{member}
-use Rattle.ec_holdings.specs.Owing.{owed_before}
-use Rattle.ec_holdings.proofs.Owing.{cleared}
+use Rattle.ec_doing.specs.OfHoldings.Owing.{owed_before}
+use Rattle.ec_doing.proofs.OfHoldings.Owing.{cleared}
 use Rattle.ec_doing.proofs.doing.Doing.report.Goals as goal
 
 pub invariant_of-self : goal.invariant_of-self
