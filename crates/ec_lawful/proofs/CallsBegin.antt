@@ -64,7 +64,7 @@ cond-false true x y e = absurd (cc)
 cond-false false x y e = refl
 
 -- the one of this number
-with-number : (P : Waiting → Type 0) (n : ℕ) (ws : List Waiting) → T (has_number n ws) → Each P ws → (w : Waiting) × ((w.no == n) ≡ true) × P w
+pub with-number : (P : Waiting → Type 0) (n : ℕ) (ws : List Waiting) → T (has_number n ws) → Each P ws → (w : Waiting) × ((w.no == n) ≡ true) × P w
 with-number P n [] i h = absurd i
 with-number P n (w ∷ ws) i h = by (w.no == n) refl i (λ j. with-number P n ws j h.1)
   where

@@ -42,7 +42,7 @@ use Rattle.ec_drill.proofs.OfPromise.OfRooms.Rooms.{same-joined}
 
 -- Lists.
 
-each-front : (P : Shown → Type 0) (xs rest : List Shown) → EachLine P (xs ++ rest) → EachLine P xs
+pub each-front : (P : Shown → Type 0) (xs rest : List Shown) → EachLine P (xs ++ rest) → EachLine P xs
 each-front P [] rest each = tt
 each-front P (x ∷ xs) rest each = (each.0, each-front P xs rest each.1)
 

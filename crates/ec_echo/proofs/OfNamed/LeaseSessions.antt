@@ -31,6 +31,7 @@ use Rattle.ec_lease.proofs.OfDrill.Promise.{as-long, few-why, fits_given, says-w
 use Rattle.ec_drill.specs.OfPromise.Pieces.{first_lines}
 use Rattle.ec_drill.specs.OfPromise.Spared.{IsNoLoss}
 use Rattle.ec_drill.specs.Seen.{Stream, Store}
+use Rattle.ec_drill.proofs.OfPromise.Lawful.{each-front}
 use Rattle.ec_drill.proofs.OfPromise.Cut.{first-are, first-ends, first-fewer, first-numbered}
 use Rattle.ec_drill.proofs.OfPromise.Spared.{lose-nothing}
 use Rattle.ec_echo.specs.Echo.{leasing}
@@ -41,10 +42,6 @@ use Rattle.ec_echo.specs.OfNamed.Runs.{EndAsAsked}
 use Rattle.ec_echo.specs.OfNamed.Seen.{IsNew}
 use Rattle.ec_echo.specs.OfNamed.Told.{EndsEarly}
 use Rattle.ec_echo.proofs.OfNamed.Leased.{Facts, NoLines, all-lines, are-own, facts-of, says-early, unopened}
-
-each-front : (P : Shown → Type 0) (xs rest : List Shown) → EachLine P (xs ++ rest) → EachLine P xs
-each-front P [] rest each = tt
-each-front P (x ∷ xs) rest each = (each.0, each-front P xs rest each.1)
 
 module _ (l e result : ℕ) (source sink : Stream) (store : Store) where
   abbrev Known : Type 0

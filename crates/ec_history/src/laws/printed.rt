@@ -2,7 +2,8 @@
 ghost use Rattle.std.specs.Prelude.{◌≡◌, ◌++◌};
 ghost use Rattle.ec_history.specs.Placing.{place};
 ghost use Rattle.ec_history.specs.OfLaws.OfPrinted.Example.{last, late_entries, lines, loss};
-ghost use Rattle.ec_history.specs.OfLaws.OfPrinted.Printed.{TimelyAreLegal, printed};
+ghost use Rattle.ec_history.specs.OfLaws.OfPrinted.Printed.{printed};
+ghost use Rattle.ec_history.specs.OfLaws.OfPrinted.Timely.{TimelyAreLegal};
 
 /// Where no answer but one that needed nothing stands behind the end of its session, printed order is legal.
 pub fn printed_order_is_legal()

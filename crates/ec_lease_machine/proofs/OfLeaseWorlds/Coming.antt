@@ -27,7 +27,7 @@ use Rattle.ec_coherence.proofs.ForServer.Tables.{same_some}
 use Rattle.ec_lawful.specs.Calls.{IsOf}
 use Rattle.ec_lawful.specs.Olds.{opened_in}
 use Rattle.ec_lawful.proofs.ForWhole.Outs.{came-out}
-use Rattle.ec_history.specs.OfLaws.OfPrinted.Printed.{AreTimely}
+use Rattle.ec_history.specs.OfLaws.OfPrinted.Timely.{AreTimely}
 use Rattle.ec_lease_machine.specs.OfQueues.Adds.{MayBe}
 use Rattle.ec_lease_machine.specs.OfQueues.Reached.{QueuedReached}
 use Rattle.ec_lease_machine.proofs.OfQueues.Adds.{event-adds, resume-adds}
@@ -48,10 +48,7 @@ use Rattle.ec_lease_machine.proofs.OfLeaseLaws.Steps.{begun, each-agrees, gone_o
 use Rattle.ec_lease_machine.specs.OfLeaseWorlds.Queues.{MayAsk, MayStep, queues}
 use Rattle.ec_lease_machine.specs.OfLeaseWorlds.Lines.{unheld}
 use Rattle.ec_lease_machine.proofs.OfLeaseWorlds.Reaching.{Begins, Both, asks, begins-all, happens-good, left-good, next, note-leaves, renew-leaves, unsettles-good}
-use Rattle.ec_base.proofs.Options.{none_some}
-
-pub no-fault : {A : Type 0} {B : Type 0} {f : B} → Some f ≡ None → A
-no-fault q = absurd (none_some (sym q))
+use Rattle.ec_base.proofs.Options.{none_some, no-fault}
 
 -- Lines without `held`.
 

@@ -39,7 +39,8 @@ use Rattle.ec_lawful.specs.Headline.{placed_on}
 use Rattle.ec_lawful.specs.Reached.{IsInOrder}
 use Rattle.ec_lawful.specs.Whole.{Whole}
 use Rattle.ec_lawful.proofs.Worlds.{no-calls, no-lines}
-use Rattle.ec_history.specs.OfLaws.OfPrinted.Printed.{AreTimely, printed}
+use Rattle.ec_history.specs.OfLaws.OfPrinted.Printed.{printed}
+use Rattle.ec_history.specs.OfLaws.OfPrinted.Timely.{AreTimely}
 use Rattle.ec_history.proofs.OfLaws.OfPrinted.Lines.{timely-legal}
 use Rattle.ec_lease_machine.specs.OfTimely.Timely.{IsTold, MayAnswer}
 use Rattle.ec_lease_machine.proofs.OfTimely.Lines.{timely-append, timely-front}

@@ -40,7 +40,7 @@ use Rattle.ec_lawful.proofs.Fronts.{asked-line, fronts-more, fronts-push, joined
 use Rattle.ec_lawful.proofs.Lined.{calls-lined}
 use Rattle.ec_lawful.proofs.Numbers.{IsKnown, Two, behind-lines, known-piece, one-lines, other-lines, own-known, pieces-push, two-lines}
 use Rattle.ec_lawful.proofs.Worlds.{no-lines}
-use Rattle.ec_history.specs.OfLaws.OfPrinted.Printed.{AreTimely}
+use Rattle.ec_history.specs.OfLaws.OfPrinted.Timely.{AreTimely}
 use Rattle.ec_history.proofs.OfLaws.OfPrinted.Lines.{timely-legal}
 use Rattle.ec_lease_machine.proofs.OfTimely.Lines.{timely-front}
 use Rattle.ec_lease_machine.specs.OfQueues.Reached.{QueuedReached}
@@ -64,7 +64,8 @@ use Rattle.ec_lease_machine.specs.OfLeaseWorlds.Queues.{MayAsk, MayStep}
 use Rattle.ec_lease_machine.specs.OfLeaseWorlds.Lines.{lease_run, unheld}
 use Rattle.ec_lease_machine.specs.OfLeaseWorlds.Runs.{AreAskedBy, AreLeased, IsCallIn, IsFit, as_line}
 use Rattle.ec_lease_machine.proofs.OfLeaseWorlds.Asking.{AsksAs, line-asks, nothing-asks, resume-asks, unsettled-asks, wait-asks}
-use Rattle.ec_lease_machine.proofs.OfLeaseWorlds.Coming.{Came, IsOther, Keeps, Stands, fault-none, message-came, moving-came, no-fault, of-turn, renewed-came, settle-came, step-came, unheld-append}
+use Rattle.ec_base.proofs.Options.{no-fault}
+use Rattle.ec_lease_machine.proofs.OfLeaseWorlds.Coming.{Came, IsOther, Keeps, Stands, fault-none, message-came, moving-came, of-turn, renewed-came, settle-came, step-came, unheld-append}
 use Rattle.ec_lease_machine.proofs.OfLeaseWorlds.Reaching.{Both, asks, forgets-good, note-leaves, opens-good}
 use Rattle.ec_history.proofs.PlacingLemmas.{each-turn}
 

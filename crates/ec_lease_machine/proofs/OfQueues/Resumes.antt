@@ -33,6 +33,7 @@ use Rattle.ec_lawful.specs.SettleLaws.{Beside, IsLined, TriesAll}
 use Rattle.ec_lawful.specs.Steps.{StepIsDone as IsDone}
 use Rattle.ec_lawful.specs.Ties.{called}
 use Rattle.ec_lawful.specs.Whole.{ShowsAll, Whole}
+use Rattle.ec_lawful.proofs.CallsBegin.{with-number}
 use Rattle.ec_lawful.proofs.ForBegins.Beginning.{begins}
 use Rattle.ec_lawful.proofs.ForBegins.Carrying.{no-zero}
 use Rattle.ec_lawful.proofs.ForWhole.FreshSteps.{start-fresh}
@@ -42,15 +43,6 @@ use Rattle.ec_lawful.proofs.Settling.{settles-call}
 use Rattle.ec_lease_machine.specs.OfQueues.Queued.{MayBegin}
 use Rattle.ec_lease_machine.proofs.OfQueues.Resumed.{has-resumed, resumed-cuts}
 use Rattle.ec_base.proofs.Numbers.{same-self as same, equal}
-
--- the one of this number
-with-number : (P : Waiting → Type 0) (n : ℕ) (ws : List Waiting) → T (has_number n ws) → Each P ws → (w : Waiting) × ((w.no == n) ≡ true) × P w
-with-number P n [] i h = absurd i
-with-number P n (w ∷ ws) i h = by (w.no == n) refl i (λ j. with-number P n ws j h.1)
-  where
-    by : (z : Bool) → (w.no == n) ≡ z → T (z || has_number n ws) → (T (has_number n ws) → (w : Waiting) × ((w.no == n) ≡ true) × P w) → (w : Waiting) × ((w.no == n) ≡ true) × P w
-    by true e i more = (w, e, h.0)
-    by false e i more = more i
 
 -- Beside a call that begins.
 module _ (g : System) (whole : Whole g) (c n l : ℕ) (cl : Call) where

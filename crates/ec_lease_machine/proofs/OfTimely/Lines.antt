@@ -21,7 +21,7 @@ use Rattle.ec_coherence.specs.Steps.{call_of, calls_after, less_call, out_lines}
 use Rattle.ec_coherence.proofs.ForServer.Tables.{same_some}
 use Rattle.ec_lawful.proofs.OfClerkSteps.ForCalls.CallsLeft.{call-less}
 use Rattle.ec_lawful.proofs.LinesLeft.{answered-gone}
-use Rattle.ec_history.specs.OfLaws.OfPrinted.Printed.{AreTimely, IsBare}
+use Rattle.ec_history.specs.OfLaws.OfPrinted.Timely.{AreTimely, IsBare}
 use Rattle.ec_base.proofs.Numbers.{same-self as same}
 use Rattle.ec_base.proofs.Options.{none_some}
 use Rattle.ec_history.proofs.OfLaws.ForPlacing.Late.{begun-untold}

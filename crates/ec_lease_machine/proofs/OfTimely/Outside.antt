@@ -32,7 +32,7 @@ use Rattle.ec_coherence.proofs.ForServer.Tables.{same_some}
 use Rattle.ec_lawful.specs.OfClerkSteps.Answering.{Suits}
 use Rattle.ec_lawful.proofs.OfClerkSteps.OutsideAnswers.{no-update, still-cached}
 use Rattle.ec_lease_machine.proofs.OfLeaseLaws.Outside.{outside-bare}
-use Rattle.ec_history.specs.OfLaws.OfPrinted.Printed.{IsBare}
+use Rattle.ec_history.specs.OfLaws.OfPrinted.Timely.{IsBare}
 use Rattle.ec_base.proofs.Options.{none_some}
 
 -- What a clerk without a session has none of, whatever it owes, has used and waits for.

@@ -57,7 +57,7 @@ use Rattle.ec_lawful.proofs.ForWhole.Outs.{came-out}
 use Rattle.ec_lawful.proofs.ForWhole.Pool.{sends-all}
 use Rattle.ec_protocol.specs.OfPool.Goings.{goes_to}
 use Rattle.ec_protocol.specs.Resumes.{resume, resume_on, session}
-use Rattle.ec_history.specs.OfLaws.OfPrinted.Printed.{AreTimely, IsBare, IsTimely}
+use Rattle.ec_history.specs.OfLaws.OfPrinted.Timely.{AreTimely, IsBare, IsTimely}
 use Rattle.ec_lease_machine.specs.OfTimely.Timely.{IsTold, MayAnswer}
 use Rattle.ec_lease_machine.proofs.OfTimely.Lines.{IsBareOut, bare-timely, none-timely, silent-timely, timely-append, waits-untold}
 use Rattle.ec_lease_machine.proofs.OfTimely.Outside.{IsBareAnswer, begins-bare}

@@ -29,7 +29,7 @@ use Rattle.ec_lawful.specs.OfClerkSteps.Waits.{HasLine, IsAtRest, NoneReady, doe
 use Rattle.ec_lawful.proofs.OfClerkSteps.ForCalls.Quiets.{quiet-sent}
 use Rattle.ec_lawful.proofs.OfClerkSteps.ForCalls.Still.{none-still, quiet-then, still-same, still-sent, still-waits}
 use Rattle.ec_lease_machine.proofs.OfLeaseLaws.Resting.{resting-quiet}
-use Rattle.ec_history.specs.OfLaws.OfPrinted.Printed.{AreTimely}
+use Rattle.ec_history.specs.OfLaws.OfPrinted.Timely.{AreTimely}
 use Rattle.ec_plain.specs.BoundedCalls.{is_bounded}
 use Rattle.ec_lease_machine.proofs.OfTimely.Outside.{settles-bare}
 use Rattle.ec_lease_machine.proofs.OfTimely.Lines.{ToldFirst, silent-timely, told-first, told-timely}

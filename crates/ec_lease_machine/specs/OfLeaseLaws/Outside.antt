@@ -8,7 +8,7 @@ use Rattle.ec_protocol.specs.Clerk.{verdict}
 use Rattle.ec_protocol.specs.declared.clerk.Clerk.{Clerk}
 use Rattle.ec_coherence.specs.Answers.{Gives}
 use Rattle.ec_coherence.specs.Sessions.{HasNone}
-use Rattle.ec_history.specs.OfLaws.OfPrinted.Printed.{IsBare}
+use Rattle.ec_history.specs.OfLaws.OfPrinted.Timely.{IsBare}
 
 -- no volume changes them
 abbrev pub OutsideAreBare : Type 0

@@ -19,7 +19,7 @@ use Rattle.ec_lease_machine.specs.declared.world.LeaseEvent.{LeaseEvent}
 use Rattle.ec_lease_machine.specs.declared.world.LeaseEvent.TheVariants as event
 use Rattle.ec_lease_machine.specs.declared.world.LeaseWorld.{LeaseWorld}
 use Rattle.ec_lease_machine.specs.OfLeaseLaws.Agrees.{LeasesAgree}
-use Rattle.ec_history.specs.OfLaws.OfPrinted.Printed.{AreTimely}
+use Rattle.ec_history.specs.OfLaws.OfPrinted.Timely.{AreTimely}
 
 -- the lines of a queue's calls differ
 abbrev pub CallsAreApart : List (ℕ × Call) → Type 0

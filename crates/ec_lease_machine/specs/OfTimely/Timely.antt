@@ -15,7 +15,7 @@ use Rattle.ec_lawful.specs.Steps.{HoldsIn}
 use Rattle.ec_lawful.specs.Whole.{Whole}
 use Rattle.ec_protocol.specs.OfPool.Goings.{goes_to}
 use Rattle.ec_protocol.specs.Resumes.{resume, session}
-use Rattle.ec_history.specs.OfLaws.OfPrinted.Printed.{AreTimely}
+use Rattle.ec_history.specs.OfLaws.OfPrinted.Timely.{AreTimely}
 
 -- a clerk that is in a session has nothing untold
 abbrev pub IsTold : ℕ → World → Type 0

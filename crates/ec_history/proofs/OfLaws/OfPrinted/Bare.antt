@@ -20,7 +20,7 @@ use Rattle.ec_history.specs.declared.entry.Entry.TheVariants as entry
 use Rattle.ec_history.proofs.OfLaws.ForPlacing.Cuts.{throughout-append, throughout-back, throughout-front}
 use Rattle.ec_history.proofs.OfLaws.ForPlacing.More.{kept-step, issued-step, owed-step, is_lost-append, count-step}
 use Rattle.ec_history.proofs.OfLaws.ForPlacing.Numbers.{count}
-use Rattle.ec_history.specs.OfLaws.OfPrinted.Printed.{IsBare}
+use Rattle.ec_history.specs.OfLaws.OfPrinted.Timely.{IsBare}
 use Rattle.ec_history.proofs.OfLaws.OfPrinted.Moved.{E, IsAlike, IsLevel, IsMoved, Uncovered, Untouched, cond-false, legal-moved, moved-all, moved-none, moved-on, one-start, uncovered-level, untouched-level}
 use Rattle.ec_base.proofs.Bools.{or_false as or-false}
 

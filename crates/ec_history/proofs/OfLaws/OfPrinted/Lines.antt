@@ -16,7 +16,8 @@ use Rattle.ec_history.proofs.OfLaws.ForPlacing.Cuts.{legal-split, legal-step, th
 use Rattle.ec_history.proofs.OfLaws.ForPlacing.Held.{place-late, place-other}
 use Rattle.ec_history.proofs.OfLaws.ForPlacing.Late.{ops_in-append, place-answer, place-ended, still-held}
 use Rattle.ec_history.proofs.OfLaws.ForPlacing.Watching.{untold-runs}
-use Rattle.ec_history.specs.OfLaws.OfPrinted.Printed.{AreTimely, IsBare, IsTimely, TimelyAreLegal, printed_from}
+use Rattle.ec_history.specs.OfLaws.OfPrinted.Printed.{printed_from}
+use Rattle.ec_history.specs.OfLaws.OfPrinted.Timely.{AreTimely, IsBare, IsTimely, TimelyAreLegal}
 use Rattle.ec_history.proofs.OfLaws.OfPrinted.Moved.{E, IsMoved, legal-moved, moved-next, moved-none, moved-on}
 use Rattle.ec_history.proofs.OfLaws.OfPrinted.Bare as bare
 use Rattle.ec_base.specs.Options.{or_zero}
