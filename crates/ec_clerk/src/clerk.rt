@@ -11,8 +11,8 @@ ghost use Rattle.ec_doing.specs.Seen.{clerk_with, doing_of, EndsWith};
 
 use ec_base::{Age, ClerkId, Counter, LAST_COUNTER, NoMemory, OpNo, SessionNo, next};
 use ec_cache::Cache;
-use ec_doing::{Doing, step};
 use ec_doing::holdings::Ledger;
+use ec_doing::{Doing, step};
 use ec_log::{Asked, LogFault, Pick};
 use ec_plain::Call;
 use ec_protocol::{ClerkFault, Flushed, Out, Waiting};

@@ -4,8 +4,8 @@ ghost use Rattle.ec_protocol.specs.Clerk as clerk;
 ghost use Rattle.ec_doing.specs.Seen.{clerk_with, send_if_batch, Does};
 
 use crate::doing::Doing;
-use ec_base::NoMemory;
 use crate::holdings::batch_of;
+use ec_base::NoMemory;
 use ec_log::{Asked, Pick};
 use ec_wire::Msg;
 

@@ -4,8 +4,8 @@ ghost use Rattle.ec_protocol.specs.Clerk as clerk;
 ghost use Rattle.ec_doing.specs.Seen.{Does, send_numbers};
 
 use crate::doing::Doing;
-use ec_base::{Hold, NoMemory, ObjId};
 use crate::holdings::on_objects;
+use ec_base::{Hold, NoMemory, ObjId};
 
 impl Doing {
     /// Gives back what is beyond the capacity.

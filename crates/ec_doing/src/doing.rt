@@ -3,9 +3,9 @@ ghost use Rattle.std.specs.Prelude.{◌≡◌, [], is_some, OnOk};
 ghost use Rattle.ec_protocol.specs.Clerk as clerk;
 ghost use Rattle.ec_doing.specs.Seen.{doing_of, Does};
 
+use crate::holdings::Ledger;
 use ec_base::{Age, ClerkId, List, NoMemory, ObjId, OpNo, SessionNo};
 use ec_cache::Cache;
-use crate::holdings::Ledger;
 use ec_protocol::{Out, Recalled, Wanted};
 use ec_wire::Msg;
 use std::alloc::Global;

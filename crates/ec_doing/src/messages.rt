@@ -6,10 +6,10 @@ ghost use Rattle.ec_protocol.specs.Clerk as clerk;
 ghost use Rattle.ec_doing.specs.Seen.{clerk_with, doing_of, enter_if_later, take_grant, Does, is_room_left};
 
 use crate::doing::Doing;
+use crate::holdings::{forget_numbers, mark_recall, run_from, take_each, use_all};
 use ec_base::{Age, Hold, List, NoMemory, ObjId, SessionNo};
 use ec_cache::resolve::Verdict;
 use ec_history::Answer;
-use crate::holdings::{forget_numbers, mark_recall, run_from, take_each, use_all};
 use ec_plain::Call;
 use ec_protocol::{Out, Recalled, Waiting};
 use ec_volume::Image;

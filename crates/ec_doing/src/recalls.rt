@@ -5,8 +5,8 @@ ghost use Rattle.ec_protocol.specs.Clerk as clerk;
 ghost use Rattle.ec_doing.specs.Seen.{clerk_with, send_back, Does};
 
 use crate::doing::Doing;
-use ec_base::{Hold, NoMemory, ObjId};
 use crate::holdings::{is_ready, lower_held};
+use ec_base::{Hold, NoMemory, ObjId};
 use ec_log::Asked;
 use ec_protocol::Recalled;
 use ec_wire::Msg;

@@ -5,9 +5,9 @@ ghost use Rattle.ec_protocol.specs.Clerk as clerk;
 ghost use Rattle.ec_doing.specs.Seen.{claim_all, clerk_with, doing_of, Does};
 
 use crate::doing::Doing;
+use crate::holdings::batch_numbers;
 use ec_base::{Hold, NoMemory, ObjId};
 use ec_cache::resolve::Verdict;
-use crate::holdings::batch_numbers;
 use ec_plain::Call;
 use ec_protocol::Waiting;
 

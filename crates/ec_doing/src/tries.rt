@@ -9,10 +9,10 @@ ghost use Rattle.ec_protocol.specs.Clerk as clerk;
 ghost use Rattle.ec_doing.specs.Seen.{clerk_with, Does, Tries, HasRoom, LacksRoom, waiting_of, outcome_of};
 
 use crate::doing::{Doing, Tried};
+use crate::holdings::{awaited, is_owing, less_id, suits, use_all};
 use ec_base::{List, NoMemory, ObjId, OpNo};
 use ec_cache::resolve::{Verdict, evaluate};
 use ec_history::Answer;
-use crate::holdings::{awaited, is_owing, less_id, suits, use_all};
 use ec_log::{Asked, MAX_UNDURABLE};
 use ec_plain::{Call, Outcome, Reply};
 use ec_protocol::{Out, Waiting};
