@@ -65,16 +65,16 @@ fn call_at<L: Link + Send, R: Threads + Wait + Clock + Sync>(
     shown(names, met)
 }
 
-// The mount path of the volume at this place.
-fn path_at(table: &[Path], place: usize) -> &Path
+/// The mount path of the volume at this place.
+pub fn path_at(table: &[Path], place: usize) -> &Path
     requires { place < length table.now }
     ensures { result.now ≡ path_at table.now place }
 {
     &table[place]
 }
 
-// So many names a path has.
-fn names_of(path: &Path) -> usize
+/// So many names a path has.
+pub fn names_of(path: &Path) -> usize
     ensures len { result ≡ length path.now }
     ensures few { result ≤ 16 }
 {
@@ -94,8 +94,9 @@ fn shown(
     Ok((MountAnswer::Volume(answer), op))
 }
 
-// Makes this call at the volume at this place.
-fn make_at<L: Link + Send, R: Threads + Wait + Clock + Sync>(
+/// Makes this call at the volume at this place, while the other volumes take turns. Faults are those of a call at that volume's
+/// clerk.
+pub fn make_at<L: Link + Send, R: Threads + Wait + Clock + Sync>(
     rt: &R,
     clerks: &[SharedClerk<L>],
     parts: &mut [Part<L>],

@@ -7,4 +7,6 @@ mod losses;
 mod mounts;
 mod part;
 
+pub use calling::{make_at, names_of, path_at};
 pub use mounts::{MountAnswer, Mounts};
+pub use part::{Part, run_parts};

@@ -84,6 +84,15 @@ impl<L: Link + Send + Drop> Mounts<L> {
         })
     }
 
+    /// The clerks, and their passes in the same order.
+    pub fn into_parts(self) -> (Vec<SharedClerk<L>>, Vec<Part<L>>)
+        ensures clerks { result.0.items ≡ self.clerks.items }
+        ensures parts { result.1.items ≡ self.parts.items }
+    {
+        let Mounts { clerks, parts, .. } = self;
+        (clerks, parts)
+    }
+
     /// Makes the call at the volume of its paths, and waits for its answer. Where it has none, nothing is begun. The call
     /// must have from 1 to 8 paths, so that it's no `Sync`. While it waits, the other volumes take turns. Faults are those of a
     /// call at that volume's clerk, and want of memory.
