@@ -1,0 +1,15 @@
+pub mod ReadRows
+pub mod Places
+pub mod Calls
+pub mod Sofar
+pub mod Gathering
+pub mod Links
+pub mod Greetings
+pub mod Reaching
+pub mod Volumes
+pub mod Partings
+pub mod Working
+pub mod Endings
+pub mod Pieces
+pub mod Ordered
+pub mod Paths
