@@ -20,7 +20,7 @@ use Rattle.ec_mount.specs.declared.script.Unread.{Unread}
 use Rattle.ec_mount.specs.declared.script.Unread.TheVariants as unread
 use Rattle.ec_mount.specs.declared.status.Status.{Status}
 use Rattle.ec_mount.specs.declared.status.Status.TheVariants as status
-use Rattle.ec_mount_table.specs.Reading.{Withholds}
+use Rattle.ec_mount_table.specs.Reading.{GivesNone}
 use Rattle.ec_mount_table.specs.Rows.{GivesRows}
 use Rattle.ec_mount_table.specs.Shown.{came_text, mounts_text}
 use Rattle.ec_mount_table.specs.Table.{Ends, MountsAll}
@@ -61,7 +61,7 @@ module _ (id boot : ℕ) (table : List Path) (w : Outside) where
   ends_or st text result e (inr p) = wanting result p
 
   -- there were no rows
-  pub refused : (why : Unread) (result : Status) → w.net_after ≡ w.net → Withholds w.left w.left_after w.reads w.reads_after why → RefusesRows why result w.held w.held_after w.writes w.writes_after → MountsAll id boot table result w
+  pub refused : (why : Unread) (result : Status) → w.net_after ≡ w.net → GivesNone w.left w.left_after w.reads w.reads_after why → RefusesRows why result w.held w.held_after w.writes w.writes_after → MountsAll id boot table result w
   refused unread.Bytes result same h p = ends_as status.Limit (shown_text (shown.Limit limit.Bytes (most_bytes + 1))) result (limit.Bytes, most_bytes + 1, (refl, h.0, h.1, h.2), same, refl) p
   refused (unread.Lines n) result same h p = ends_as status.Limit (shown_text (shown.Limit limit.Lines n)) result (limit.Lines, n, h, same, refl) p
   refused (unread.Bad n column) result same h p =
@@ -88,9 +88,9 @@ module _ (id boot : ℕ) (table : List Path) (w : Outside) where
     told_end (Err (fault.Spent c)) result k p = ends_or status.Spent (came_text table rows mets replies told ++ shown_text (shown.Spent c)) result (c, (rows, given, (mets, replies, told, k, refl))) p
     told_end (Err fault.NoMemory) result k p = wanting result p
 
-  -- the same of a table and of rows that are equal to these
-  pub told_of : (rows shown : List Row) (paths : List Path) → shown ≡ rows → paths ≡ table → (mets : List Seen) (replies : List Reply) (told : List (List (List ℕ))) (last : Result (List Reply) NodeFault) (result : Status) → GivesRows w.left w.left_after rows
-      → Works id boot paths shown w.net w.net_after mets replies told last → TellsAll paths shown mets replies told last result w.held w.held_after w.writes w.writes_after → MountsAll id boot table result w
-  told_of rows shown paths same are mets replies told last result given k p =
+  -- the same of tables and of rows that are equal to these
+  pub told_of : (rows shown listed : List Row) (paths printed : List Path) → shown ≡ rows → listed ≡ rows → paths ≡ table → printed ≡ table → (mets : List Seen) (replies : List Reply) (told : List (List (List ℕ))) (last : Result (List Reply) NodeFault) (result : Status) → GivesRows w.left w.left_after rows
+      → Works id boot paths shown w.net w.net_after mets replies told last → TellsAll printed listed mets replies told last result w.held w.held_after w.writes w.writes_after → MountsAll id boot table result w
+  told_of rows shown listed paths printed same alike are prints mets replies told last result given k p =
       told_end rows given mets replies told last result (subst (λ t. Works id boot t rows w.net w.net_after mets replies told last) are (subst (λ r. Works id boot paths r w.net w.net_after mets replies told last) same k))
-      (subst (λ t. TellsAll t rows mets replies told last result w.held w.held_after w.writes w.writes_after) are (subst (λ r. TellsAll paths r mets replies told last result w.held w.held_after w.writes w.writes_after) same p))
+      (subst (λ t. TellsAll t rows mets replies told last result w.held w.held_after w.writes w.writes_after) prints (subst (λ r. TellsAll printed r mets replies told last result w.held w.held_after w.writes w.writes_after) alike p))

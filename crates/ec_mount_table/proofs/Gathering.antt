@@ -140,8 +140,7 @@ module _ {L S : Type 0} (pass_of : S → Pass (Node L) Step) (met_of : S → Met
       let was = found pass_of olds i old o in
       let is = found pass_of news i new n in
       let x = is.0 in
-      let here = each i x was.1 in
-      (
+      let here = each i x was.1 in (
         met_of x,
         subst (λ y. slice_get (map met_of news) i ≡ Some (met_of y)) (is.2 x) (get_mapped met_of news i (slice_index_or news i x) (get_indexed news i x is.1)),
         subst (λ p. Answered (Some Sync) p new (met_of x)) (ap pass_of (was.2 x) ∙ was.3)

@@ -1,12 +1,16 @@
 -- One volume is reached, or isn't.
-use Rattle.std.proofs.Common.{◌≡◌, ◌+◌, ◌<◌, ◌≤◌, ◌++◌, ℕ, List, length, Option, None, Result, Ok, Err, IfOk, IfErr, ap, ◌∙◌, subst, inr, sym, arith}
+use Rattle.std.proofs.Common.{◌≡◌, ◌+◌, ◌<◌, ◌≤◌, ◌++◌, ℕ, List, [], ◌∷◌, length, Option, None, Result, Ok, Err, IfOk, IfErr, ap, ◌∙◌, subst, inr, sym, arith}
 use Rattle.ec_protocol.specs.Clerk.{start}
 use Rattle.ec_protocol.specs.declared.clerk.Clerk.{Clerk}
 use Rattle.ec_protocol.specs.declared.clerk.Out.{Out}
+use Rattle.ec_lock.specs.PassViews.{front, numbers, IsPassOf}
+use Rattle.ec_lock.specs.declared.types.Pass.{Pass}
+use Rattle.ec_lock.specs.declared.types.TracedLock.{TracedLock}
 use Rattle.ec_link.specs.Links.{Heard}
 use Rattle.ec_clerknode.specs.declared.fault.NodeFault.{NodeFault}
 use Rattle.ec_clerknode.specs.declared.fault.NodeFault.TheVariants as fault
 use Rattle.ec_clerknode.specs.declared.state.Node.{Node}
+use Rattle.ec_clerknode.specs.declared.step.Step.{Step}
 use Rattle.ec_mount.specs.Run.{NetSeen, CameUnsent, LostUnsent}
 use Rattle.ec_mount.specs.Work.{NotGreeted, Took}
 use Rattle.ec_mount_table.specs.Going.{Greeted, NotReached}
@@ -41,6 +45,12 @@ module _ (id boot : ℕ) (clerk : Clerk) (outs sent : List Out) (before called n
   not_greeted (fault.OldBoot age) n = absurd n
   not_greeted (fault.Spent c) n = absurd n
   not_greeted fault.NoMemory n = tt
+
+-- the pass is of its lock, and made no call
+pub passes_of : {L C E : Type 0} (lock_of : C → TracedLock (Node L) Step) (made : Result (C × Pass (Node L) Step) E) → IfOk made (λ m. IsPassOf (lock_of m.0) m.1 × (front m.1 ≡ []) × (m.1.number ≡ 0) × (numbers m.1 ≡ 0 ∷ []))
+    → IfOk made (λ m. IsPassOf (lock_of m.0) m.1 × (front m.1 ≡ []) × (m.1.number ≡ 0))
+passes_of lock_of (Err f) p = tt
+passes_of lock_of (Ok m) p = (p.0, p.1, p.2)
 
 -- memory was wanting
 pub wants : {M : Type 0} (id boot : ℕ) (before now : NetSeen) (made : Result M NodeFault) → IfErr made (λ f. f ≡ fault.NoMemory) → IfErr made (NotReached id boot before now)

@@ -7,6 +7,7 @@ pub mod Links
 pub mod Greetings
 pub mod Reaching
 pub mod Volumes
+pub mod Seating
 pub mod Partings
 pub mod Working
 pub mod Endings

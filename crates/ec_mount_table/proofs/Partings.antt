@@ -1,6 +1,7 @@
 -- One volume after another ends.
-use Rattle.std.proofs.Common.{◌≡◌, ◌⊎◌, ◌+◌, ◌<◌, ◌≤◌, ℕ, zero, suc, Bool, true, false, List, [], ◌∷◌, ◌++◌, length, Option, Some, None, Ok, Err, IfSome, refl, sym, ap, ◌∙◌, subst, inl, inr, ⊎_elim, arith, append_assoc, append-nil}
-use Rattle.std.specs.Prelude.{map, slice_get}
+use Rattle.std.proofs.Common.{◌≡◌, ◌⊎◌, ◌+◌, ◌<◌, ◌≤◌, ℕ, zero, suc, Bool, true, false, List, [], ◌∷◌, ◌++◌, length, Option, Some, None, Result, Ok, Err, IfSome, OnOk, refl, sym, ap, ◌∙◌, subst, inl, inr, ⊎_elim, arith, append_assoc, append-nil}
+use Rattle.std.specs.Prelude.{map, slice_get, Vec}
+use Rattle.std.specs.declared.alloc.Global.{Global}
 use mathlib.Core.List.{IsPrefix}
 use Rattle.ec_base.specs.declared.ids.Age.{Age}
 use Rattle.ec_protocol.specs.declared.clerk.Clerk.{Clerk}
@@ -62,9 +63,9 @@ module _ {L : Type 0} (lock : TracedLock (Node L) Step) (old new : Pass (Node L)
 pub bye_later : (pass : ℕ) (before now later : List Step) → IsPrefix now later → SaidBye pass before now → SaidBye pass before later
 bye_later pass before now later p g = (g.0, g.1, g.2, prefix_get now later g.0 g.1 p g.3, g.4, g.5)
 
-module _ {L : Type 0} (counts : L → ℕ) (given : L → Option (List Heard)) (got : L → Option (List (List ℕ))) (lock : TracedLock (Node L) Step) (pass mid new : Pass (Node L) Step) (is_done : Bool) (met : Option NodeFault) (bye : SaidGoodbye lock pass mid is_done met)
+module _ {L : Type 0} (faults closes : L → ℕ) (given : L → Option (List Heard)) (got : L → Option (List (List ℕ))) (lock : TracedLock (Node L) Step) (pass mid new : Pass (Node L) Step) (is_done : Bool) (met : Option NodeFault) (bye : SaidGoodbye lock pass mid is_done met)
     (later : IsPrefix (front mid) (front new)) (own : (n : ℕ) → Member n (numbers mid) → of number_of n (front mid) ≡ of number_of n (front new)) where
-  closed_by : (k : Clerk) (link : L) → (first lock).linker ≡ None → LinksBy (first lock).linker (front new) → FinishedAlone counts given got (first lock) (front new) (Some k) link → AreSaid (front new) → ClosedOne given got lock pass (front new) (given link, got link)
+  closed_by : (k : Clerk) (link : L) → (first lock).linker ≡ None → LinksBy (first lock).linker (front new) → FinishedAlone (λ l. faults l + closes l) given got (first lock) (front new) (Some k) link → AreSaid (front new) → ClosedOne given got lock pass (front new) (given link, got link)
   closed_by k link none by f said = record {
     run = f.0;
     whole = said;
@@ -83,10 +84,10 @@ module _ {L : Type 0} (counts : L → ℕ) (given : L → Option (List Heard)) (
         let why : IfSome (Some f) (λ g. (is_done ≡ true) × Has g (front mid)) = subst (λ o. IfSome o (λ g. (is_done ≡ true) × Has g (front mid))) e bye.said.0 in
         (why.0, has_longer (front mid) (front new) later f why.1)
 
-  pub ended_one : (k : Clerk) (back left : L) (before after : NetSeen) (faults closes : ℕ) (told : List (List ℕ)) (boot : Option Age) → (first lock).linker ≡ None → LinksBy (first lock).linker (front new) → FinishedAlone counts given got (first lock) (front new) (Some k) back → AreSaid (front new)
-      → counts back ≡ faults + closes → (given left ≡ given back) × (got left ≡ got back) → after.faults ≡ before.faults → after.bad ≡ before.bad + is_bad faults closes → after.ended ≡ before.ended ++ (given left, got left) ∷ [] → told ≡ told_by (front new) → boot ≡ old_boot (front new)
-      → EndedOne given got is_done before after lock pass told boot met
-  ended_one k back left before after faults closes told boot none by f said are same still bad ended told_is boot_is =
+  ended_one : (k : Clerk) (back left : L) (before after : NetSeen) (told : List (List ℕ)) (boot : Option Age) → (first lock).linker ≡ None → LinksBy (first lock).linker (front new) → FinishedAlone (λ l. faults l + closes l) given got (first lock) (front new) (Some k) back → AreSaid (front new)
+      → (faults left ≡ faults back) × (closes left ≡ closes back) → (given left ≡ given back) × (got left ≡ got back) → after.faults ≡ before.faults → after.bad ≡ before.bad + is_bad (faults left) (closes left) → after.ended ≡ before.ended ++ (given left, got left) ∷ [] → told ≡ told_by (front new)
+      → boot ≡ old_boot (front new) → EndedOne given got is_done before after lock pass told boot met
+  ended_one k back left before after told boot none by f said counts same still bad ended told_is boot_is =
       let few = f.1 in
       record {
         steps = front new;
@@ -95,11 +96,20 @@ module _ {L : Type 0} (counts : L → ℕ) (given : L → Option (List Heard)) (
         ended = ended ∙ ap (λ e. before.ended ++ e ∷ []) (pair_same (given left) (given back) (got left) (got back) same.0 same.1);
         low = omega (arith, bad);
         faults = still;
-        rose = λ some. omega (arith, bad, bad_of faults closes (omega (arith, few, some, are)));
+        rose = λ some. omega (arith, bad, bad_of (faults left) (closes left) (omega (arith, few, some, counts.0, counts.1)));
         told_is = told_is;
         boot_is = boot_is;
         said = said_by;
       }
+
+  -- the same by what was handed back
+  pub ended_by : {E : Type 0} (whole : Option Clerk) (k : Clerk) → whole ≡ Some k → (back left : L) (before after : NetSeen) (told : List (List ℕ)) (boot : Option Age) → (first lock).linker ≡ None → LinksBy (first lock).linker (front new)
+      → ((first lock).linker ≡ None → FinishedAlone (λ l. faults l + closes l) given got (first lock) (front new) whole back) → IfSome whole (λ k. AreSaid (front new)) → IfSome whole (λ k. told ≡ told_by (front new)) → boot ≡ old_boot (front new)
+      → (faults left ≡ faults back) × (closes left ≡ closes back) → (given left ≡ given back) × (got left ≡ got back) → (r : Result (Unit {0}) E) → r ≡ Ok tt → after.faults ≡ before.faults → OnOk r (after.bad ≡ before.bad + is_bad (faults left) (closes left))
+      → OnOk r (after.ended ≡ before.ended ++ (given left, got left) ∷ []) → EndedOne given got is_done before after lock pass told boot met
+  ended_by whole k is back left before after told boot none by f said told_is boot_is counts same r done still bad ended =
+      ended_one k back left before after told boot none by (subst (λ o. FinishedAlone (λ l. faults l + closes l) given got (first lock) (front new) o back) is (f none)) (subst (λ o. IfSome o (λ (x : Clerk). AreSaid (front new))) is said) counts same still
+      (subst (λ o. OnOk o (after.bad ≡ before.bad + is_bad (faults left) (closes left))) done bad) (subst (λ o. OnOk o (after.ended ≡ before.ended ++ (given left, got left) ∷ [])) done ended) (subst (λ o. IfSome o (λ (x : Clerk). told ≡ told_by (front new))) is told_is) boot_is
 
 module _ {L : Type 0} (given : L → Option (List Heard)) (got : L → Option (List (List ℕ))) (is_done : Bool) where
   closed_many : (locks : List (TracedLock (Node L) Step)) (passes : List (Pass (Node L) Step)) (runs : List (List Step)) (links : List Ended) → AllClosed given got locks passes runs links → length runs ≡ length passes
@@ -168,14 +178,13 @@ module _ {L : Type 0} (given : L → Option (List Heard)) (got : L → Option (L
     pub passes_are : passes ≡ passes_left ++ passes_gone
     pub ended : IfSome all (λ a. EndedAll given got is_done before now locks_gone passes_gone (lists_of a.told) a.boot a.fault)
 
-  pub left_none : (net : NetSeen) (locks : List (TracedLock (Node L) Step)) (passes : List (Pass (Node L) Step)) (all : Ends) → lists_of all.told ≡ [] → all.boot ≡ None → all.fault ≡ None → Left net net locks locks passes passes (Some all)
-  left_none net locks passes all t b f = record {
+  pub left_first : (net : NetSeen) (locks : List (TracedLock (Node L) Step)) (passes : List (Pass (Node L) Step)) (told : Vec (Vec (List ℕ) Global) Global) → told.items ≡ [] → Left net net locks locks passes passes (Some (record { told = told; boot = None; fault = None }))
+  left_first net locks passes told none = record {
     locks_gone = [];
     passes_gone = [];
     locks_are = sym (append-nil locks);
     passes_are = sym (append-nil passes);
-    ended = subst (λ l. EndedAll given got is_done net net [] [] l all.boot all.fault) (sym t)
-        (subst (λ o. EndedAll given got is_done net net [] [] [] o all.fault) (sym b) (subst (EndedAll given got is_done net net [] [] [] None) (sym f) (ended_none net)));
+    ended = subst (λ l. EndedAll given got is_done net net [] [] (map (λ (w : Vec (List ℕ) Global). w.items) l) None None) (sym none) (ended_none net);
   }
 
   abbrev pub Joins : Option One → Option Ends → Ends → Type 0

@@ -20,7 +20,7 @@ module _ {A : Type 0} (f : A → List ℕ) (words : List A) where
   paths_more i word old new path l is had path_is longer =
       let done = take i words in
       longer ∙ (ap (λ t. t ++ path ∷ []) had ∙ (ap (λ p. map mount_path (map f done) ++ p ∷ []) path_is
-          ∙ sym (ap (λ w. map mount_path (map f w)) (take_next words i word l is) ∙ (ap (map mount_path) (map-append f done (word ∷ [])) ∙ map-append mount_path (map f done) (f word ∷ [])))))
+      ∙ sym (ap (λ w. map mount_path (map f w)) (take_next words i word l is) ∙ (ap (map mount_path) (map-append f done (word ∷ [])) ∙ map-append mount_path (map f done) (f word ∷ [])))))
 
   pub paths_all : (i : ℕ) (table : List Path) → length words ≤ i → table ≡ map mount_path (map f (take i words)) → table ≡ map mount_path (map f words)
   paths_all i table l is = is ∙ ap (λ w. map mount_path (map f w)) (take_all words i l)

@@ -5,7 +5,7 @@ use Rattle.std.specs.List.{flat_map}
 use Rattle.ec_plain.specs.Walk.{Path}
 use Rattle.ec_outs.specs.Outs.{Reply}
 use Rattle.ec_words.specs.OfText.Calls.{call_text}
-use Rattle.ec_mount_table.specs.Shown.{all_told_text, line_text, row_text, rows_text, seen_text, sync_text, syncs_text, told_text}
+use Rattle.ec_mount_table.specs.Shown.{all_told_text, line_text, part_text, row_text, rows_text, seen_text, sync_text, syncs_text, told_text}
 use Rattle.ec_mount_table.specs.declared.script.Row.{Row}
 use Rattle.ec_mount_table.specs.declared.seen.Seen.{Seen}
 
@@ -54,6 +54,10 @@ seen_piece row old mid new why e f =
     let arrow = codes " -> " in
     let end = why ++ 10 ∷ [] in
     e ∙ (ap (λ l. l ++ end) f ∙ (append_assoc old (line ++ (call ++ arrow)) end ∙ ap (λ l. old ++ l) (append_assoc line (call ++ arrow) end ∙ ap (λ l. line ++ l) (append_assoc call arrow end))))
+
+-- no row is left
+pub part_none : (text : List ℕ) (table : List Path) (rows : List Row) (replies : List Reply) → rows ≡ [] → text ≡ text ++ part_text table rows replies
+part_none text table rows replies none = sym (append-nil text) ∙ ap (λ l. text ++ part_text table l replies) (sym none)
 
 -- three pieces were put, one behind the other
 pub whole_pieces : (one two three : List ℕ) (none first second third : List ℕ) → none ≡ [] → first ≡ none ++ one → second ≡ first ++ two → third ≡ second ++ three → third ≡ one ++ (two ++ three)

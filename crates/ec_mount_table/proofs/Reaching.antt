@@ -110,9 +110,13 @@ module _ {L : Type 0} (given : L → Option (List Heard)) (got : L → Option (L
     net_fails : NotReached id boot now later fault.Net → ReachedNot given got id boot before later locks
     unfolding reached_still came_new
     net_fails (inl u) =
+        let k = length locks in
         let had_faults = r.faults in
         let more = u.0 in
-        record { reached = reached_still [] (u.2 ∙ sym (append-nil now.ended)) (omega (arith, u.1)); why = inl (omega (arith, had_faults, more)) }
+        record {
+          reached = reached_still [] (u.2 ∙ sym (append-nil now.ended)) (omega (arith, u.1));
+          why = inl (omega (arith, had_faults, more), links_append k r.links [] ∙ (append-nil (links_at k r.links) ∙ links_outside k k r.links r.inside (omega arith)));
+        }
     net_fails (inr u) =
         let had = r.low in
         let rose = u.0 in

@@ -35,7 +35,7 @@ use Rattle.ec_mount.proofs.Linking.{told_from}
 use Rattle.ec_mount_table.specs.Rows.{calls_at, next_at, replies_at, reply_in}
 use Rattle.ec_mount_table.specs.Runs.{AreNew, AreWithin, CutOff, Each, HasOne, HoldsCalls, HoldsToEnd, LostOne, MetOne, RanAll, ReachedFew, SpendsOne, first_boot, links_at, or_boot, view}
 use Rattle.ec_mount_table.specs.Table.{HoldsAll}
-use Rattle.ec_mount_table.specs.Going.{AllClosed, ClosedOne, EndedAll, Greeted, Holding, MadeAll, PassHas, Parted, ReachedThese, ReachedUpTo, ReachFails, Stopped, Unless, Works, Concludes, backwards, items_of, last_fault, last_of}
+use Rattle.ec_mount_table.specs.Going.{AllClosed, ClosedOne, EndedAll, Greeted, Holding, MadeAll, PassHas, Parted, ReachedThese, ReachFails, Stopped, Unless, Works, Concludes, backwards, items_of, last_fault, last_of}
 use Rattle.ec_mount_table.specs.declared.ending.Ends.{Ends}
 use Rattle.ec_mount_table.specs.declared.script.Row.{Row}
 use Rattle.ec_mount_table.specs.declared.seen.Seen.{Seen}
@@ -291,7 +291,7 @@ module _ {L : Type 0} (given : L → Option (List Heard)) (got : L → Option (L
           subst (λ n. calls_by n steps ≡ []) was.0 (c.6.begun ∙ ap (calls_by p.number) was.1)
 
       -- the next volume wasn't reached
-      lost_next : (is : length locks + 1 ≡ many) → (age ≡ None) → ((before.faults < now.faults) ⊎ ((before.bad < now.bad) × Unheard id boot (view (length locks) [] before) (view (length locks) r.links now))) → LostOne id boot table rows before after [] [] told
+      lost_next : (is : length locks + 1 ≡ many) → (age ≡ None) → (((before.faults < now.faults) × (links_at (length locks) r.links ≡ [])) ⊎ ((before.bad < now.bad) × Unheard id boot (view (length locks) [] before) (view (length locks) r.links now))) → LostOne id boot table rows before after [] [] told
       unfolding ran_all all_many
       lost_next is none why =
           let k = length locks in
@@ -311,7 +311,12 @@ module _ {L : Type 0} (given : L → Option (List Heard)) (got : L → Option (L
               new = are_new e.runs (sym e.boot_is ∙ none);
               ran = record { links = w.links; ended = w.ended; inside = subst (λ n. AreWithin n w.links) (sym is ∙ ap (λ n. n + 1) (sym runs_are)) w.inside; each = w.each };
               why = ⊎_elim
-                  (λ (f : before.faults < now.faults). inl (omega (arith, f, faults)))
+                  (λ (f : (before.faults < now.faults) × (links_at k r.links ≡ [])).
+                  let more = f.0 in
+                  inl (
+                    omega (arith, more, faults),
+                    subst (λ n. links_at n (r.links ++ down) ≡ []) (sym runs_are) (links_append k r.links down ∙ (ap (λ l. l ++ links_at k down) f.1 ∙ nothing)),
+                  ))
                   (λ (u : (before.bad < now.bad) × Unheard id boot (view k [] before) (view k r.links now)).
                   let rose = u.0 in
                   let h = u.1 in
@@ -388,13 +393,3 @@ done_as (Err f) is_done e = e
 
 pub hold_fresh : {L : Type 0} (passes : List (Pass (Node L) Step)) → Each passes (λ place pass. (pass.number ≡ 0) × (front pass ≡ [])) → Holding (λ place. []) (λ place. []) passes
 hold_fresh passes each i pass e = let was = each i pass e in (was.0, (ap (calls_by 0) was.1, tt))
-
--- The volumes that were reached, in number those of the table.
-module _ {L : Type 0} (given : L → Option (List Heard)) (got : L → Option (List (List ℕ))) (id boot many : ℕ) (before now : NetSeen) (locks same : List (TracedLock (Node L) Step)) (table : List Path) (is : length table ≡ many) (are : same ≡ locks) where
-  pub reached_table : ReachedUpTo given got id boot many before now locks (Ok tt) → ReachedThese given got id boot (length table) before now same
-  reached_table r = subst (ReachedThese given got id boot (length table) before now) (sym are) (subst (λ n. ReachedThese given got id boot n before now locks) (r.0 ∙ sym is) r.1)
-
-  pub fails_table : (f : NodeFault) → ReachedUpTo given got id boot many before now locks (Err f) → (length same < length table) × ReachFails given got id boot before now same f
-  fails_table f r =
-      let few = r.0 in
-      (omega (arith, few, is, ap length are), subst (λ l. ReachFails given got id boot before now l f) (sym are) r.1)

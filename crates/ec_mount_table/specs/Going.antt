@@ -259,7 +259,7 @@ module _ {L : Type 0} (given : L → Option (List Heard)) (got : L → Option (L
   -- The volumes with these locks were reached and the next one wasn't.
   pub record ReachedNot (id boot : ℕ) (before now : NetSeen) (locks : List (TracedLock (Node L) Step)) : Type 0 where
     pub reached : ReachedThese given got id boot (length locks + 1) before now locks
-    pub why : (before.faults < now.faults) ⊎ ((before.bad < now.bad) × Unheard id boot (view (length locks) [] before) (view (length locks) reached.links now))
+    pub why : ((before.faults < now.faults) × (links_at (length locks) reached.links ≡ [])) ⊎ ((before.bad < now.bad) × Unheard id boot (view (length locks) [] before) (view (length locks) reached.links now))
 
   abbrev pub ReachFails : ℕ → ℕ → NetSeen → NetSeen → List (TracedLock (Node L) Step) → NodeFault → Type 0
   ReachFails id boot before now locks fault.Net = ReachedNot id boot before now locks

@@ -15,9 +15,9 @@ ReadsRows lines unread.NoMemory = Unit {0}
 ReadsRows lines _ = ⊥
 
 -- why there are no rows
-abbrev pub Withholds : Option (List ℕ) → Option (List ℕ) → ℕ → ℕ → Unread → Type 0
-Withholds left left_after faults later unread.Bytes = (bytes : List ℕ) × Consumes left left_after bytes × (length bytes ≡ most_bytes + 1)
-Withholds left left_after faults later (unread.Lines n) = (script : List ℕ) × IsScript left left_after script × (n ≡ length (lines_of script)) × (most_lines < n)
-Withholds left left_after faults later (unread.Bad n column) = (script : List ℕ) × IsScript left left_after script × (length (lines_of script) ≤ most_lines) × IsBadAt (lines_of script) n column
-Withholds left left_after faults later unread.Source = Rose faults later
-Withholds left left_after faults later unread.NoMemory = Unit {0}
+abbrev pub GivesNone : Option (List ℕ) → Option (List ℕ) → ℕ → ℕ → Unread → Type 0
+GivesNone left left_after faults later unread.Bytes = (bytes : List ℕ) × Consumes left left_after bytes × (length bytes ≡ most_bytes + 1)
+GivesNone left left_after faults later (unread.Lines n) = (script : List ℕ) × IsScript left left_after script × (n ≡ length (lines_of script)) × (most_lines < n)
+GivesNone left left_after faults later (unread.Bad n column) = (script : List ℕ) × IsScript left left_after script × (length (lines_of script) ≤ most_lines) × IsBadAt (lines_of script) n column
+GivesNone left left_after faults later unread.Source = Rose faults later
+GivesNone left left_after faults later unread.NoMemory = Unit {0}

@@ -108,7 +108,7 @@ pub record ReachedFew (id boot : ℕ) (table : List Path) (before after : NetSee
   pub idle : Each runs (λ place steps. calls_by 0 steps ≡ [])
   pub new : AreNew runs
   pub ran : RanAll id boot (length runs + 1) before after runs
-  pub why : (before.faults < after.faults) ⊎ ((before.bad < after.bad) × Unheard id boot (view (length runs) [] before) (view (length runs) ran.links after))
+  pub why : ((before.faults < after.faults) × (links_at (length runs) ran.links ≡ [])) ⊎ ((before.bad < after.bad) × Unheard id boot (view (length runs) [] before) (view (length runs) ran.links after))
   pub told_is : told ≡ map told_by runs
 
 -- one volume wasn't reached, or a link failed or was closed

@@ -6,7 +6,7 @@ ghost use Rattle.ec_words.specs.Calls.{SpellsCall};
 ghost use Rattle.ec_words.specs.Words.{words_of};
 ghost use Rattle.ec_mount.specs.Script.{most_lines};
 ghost use Rattle.ec_mount_table.specs.Rows.{AreRows, GivesRows};
-ghost use Rattle.ec_mount_table.specs.Reading.{ReadsRows, Withholds};
+ghost use Rattle.ec_mount_table.specs.Reading.{ReadsRows, GivesNone};
 
 use ec_base::Source;
 use ec_mount::{MOST_BYTES, MOST_LINES, Unread};
@@ -27,7 +27,7 @@ pub struct Row {
 pub fn rows_of<S: Source>(alloc: Global, source: &mut S) -> Result<Vec<Row>, Unread>
     ensures given { MatchResult result
         (λ rows. GivesRows (S.left source.old) (S.left source.new) rows.items)
-        (λ why. Withholds (S.left source.old) (S.left source.new) (S.faults source.old) (S.faults source.new) why) }
+        (λ why. GivesNone (S.left source.old) (S.left source.new) (S.faults source.old) (S.faults source.new) why) }
     ensures later { S.faults source.old ≤ S.faults source.new }
 {
     let script = match read_whole(alloc, source, MOST_BYTES) {

@@ -1,5 +1,5 @@
 // What is written of calls over several volumes.
-ghost use Rattle.std.specs.Prelude.{◌≡◌, ℕ, [], ◌∷◌, ◌++◌, codes, length, map, IfOk, OnOk, List as Listed};
+ghost use Rattle.std.specs.Prelude.{◌≡◌, ℕ, [], ◌∷◌, ◌++◌, codes, drop, length, map, IfOk, OnOk, List as Listed};
 ghost use Rattle.std.specs.Fmt.{decimal};
 ghost use Rattle.std.specs.List.{flat_map};
 ghost use Rattle.ec_clerknode.specs.LaneRuns.{lists_of};
@@ -196,19 +196,20 @@ fn put_rows(
     Ok(())
 }
 
-// What came to the first row that met nothing.
+// What came to the row at this place, the first that met nothing.
 fn put_part(
     alloc: Global,
     text: &mut Vec<u8>,
     table: &[Path],
     rows: &[Row],
+    place: usize,
     replies: &[Reply],
 ) -> Result<(), NoMemory>
-    ensures { OnOk result (text.new.items ≡ text.old.items ++ part_text table.now rows.now replies.now) }
+    ensures { OnOk result (text.new.items ≡ text.old.items ++ part_text table.now (drop place rows.now) replies.now) }
 {
-    match rows {
-        [row, ..] => put_row_syncs(alloc, text, table, row, replies),
-        [] => Ok(()),
+    match rows.get(place) {
+        Some(row) => put_row_syncs(alloc, text, table, row, replies),
+        None => Ok(()),
     }
 }
 
@@ -279,8 +280,8 @@ pub fn came_line(
     let last = line?;
     let mut text = Vec::new(alloc);
     put_rows(alloc, &mut text, table, rows, &answers.mets)?;
-    let done = answers.mets.len().min(rows.len());
-    put_part(alloc, &mut text, table, &rows[done..], &answers.replies)?;
+    let done = answers.mets.len();
+    put_part(alloc, &mut text, table, rows, done, &answers.replies)?;
     put_all_told(alloc, &mut text, table, &answers.told)?;
     text.extend_from_slice(&last)?;
     Ok(text)

@@ -13,14 +13,14 @@ ghost use Rattle.ec_mount_table.specs.Runs.{Each};
 ghost use Rattle.ec_mount_table.specs.Going.{Concludes, IsOrdered, ReachedThese, ReachFails, Works, items_of, last_fault, last_of};
 
 use crate::ending::{Ends, end_all};
-use crate::reach::{Volumes, reach_all};
+use crate::reach::{Seated, Volumes, seat_all};
 use crate::rows::{Made, make_all};
 use crate::script::Row;
 use crate::seen::Seen;
 use ec_base::{Age, List, OpNo, Path};
 use ec_clerknode::{NodeFault, Reply, SharedClerk};
 use ec_link::{Around, Net};
-use ec_mounts::{Mounts, Part};
+use ec_mounts::Part;
 use std::alloc::Global;
 use std::io::Eprint;
 
@@ -88,20 +88,16 @@ fn last_of(
 fn conclude(alloc: Global, made: Made, ends: Option<Ends>) -> Answers
     ensures { Concludes ends made.mets.items made.replies.items made.last result }
 {
-    let Some(Ends { told, boot, fault }) = ends else {
+    let Some(ends) = ends else {
         drop(made);
-        let Made {
-            mets,
-            replies,
-            last,
-        } = none(alloc, NodeFault::NoMemory);
         return Answers {
-            mets,
-            replies,
+            mets: Vec::new(alloc),
+            replies: Vec::new(alloc),
             told: Vec::new(alloc),
-            last,
+            last: Err(NodeFault::NoMemory),
         };
     };
+    let Ends { told, boot, fault } = ends;
     let Made {
         mets,
         replies,
@@ -182,13 +178,11 @@ pub fn work<N: Net, R: Around + Eprint>(
         result.mets.items result.replies.items (lists_of result.told) (items_of result.last) }
 {
     let alloc = rt.alloc();
-    let mut list = Vec::new(alloc);
-    let reached = reach_all(rt, net, volumes, &mut list);
-    let Ok(mounts) = Mounts::new(alloc, list) else {
+    let Some(seated) = seat_all(rt, net, volumes) else {
         return conclude(alloc, none(alloc, NodeFault::NoMemory), None);
     };
-    let (clerks, parts) = mounts.into_parts();
-    match reached {
+    let Seated { clerks, parts, end } = seated;
+    match end {
         Ok(()) => work_over(rt, net, clerks, parts, table, rows),
         Err(fault) => end_few(rt, net, clerks, parts, fault),
     }

@@ -12,8 +12,8 @@ invariant-volumes g l =
     × Each l.clerks.items (λ place clerk. (first clerk.lock).linker ≡ None)
     × (g.N.Net.faults l.net ≡ g.N.Net.faults l.fn.net)
     × Left g.N.Link.Link.given g.N.Link.Link.got l.is_done (record { faults = g.N.Net.faults l.fn.net; bad = g.N.Net.bad l.fn.net; ended = g.N.Net.ended l.fn.net })
-        (record { faults = g.N.Net.faults l.net; bad = g.N.Net.bad l.net; ended = g.N.Net.ended l.net })
-        (map (λ c. c.lock) l.fn.clerks.items) (map (λ c. c.lock) l.clerks.items) (map (λ p. p.pass) l.fn.parts.items) (map (λ p. p.pass) l.parts.items) l.all
+    (record { faults = g.N.Net.faults l.net; bad = g.N.Net.bad l.net; ended = g.N.Net.ended l.net })
+    (map (λ c. c.lock) l.fn.clerks.items) (map (λ c. c.lock) l.clerks.items) (map (λ p. p.pass) l.fn.parts.items) (map (λ p. p.pass) l.parts.items) l.all
 
 abbrev pub decreases-volumes : goal.decreases-volumes
 decreases-volumes g l = vec_len l.clerks

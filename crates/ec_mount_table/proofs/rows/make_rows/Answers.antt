@@ -35,8 +35,7 @@ rows-preserved g c =
     let pass_of : Part g.row.L.Denot g.row.L-Bell.Denot → Pass (Node g.row.L.Denot) Step = λ p. p.pass in
     let rows = c.args.rows.now in
     let i = c.rows.row-index in
-    let row = c.row-item.result in
-    (
+    let row = c.row-item.result in (
       c.make_row.ensures.seated,
       c.make_row.auto.parts ∙ c.rows.invariant.1,
       sofar_more c.args.table.now (take i rows) (take (i + 1) rows) c.rows.mets.items c.push.new.self.items row c.in-Ok-make_row.met (map pass_of c.rows.parts) (map pass_of c.make_row.new.parts) c.rows.invariant.2 (take_next rows i row c.rows-test.true c.row-item.is) c.in-Ok-push.ensures.items
