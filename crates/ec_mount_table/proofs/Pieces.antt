@@ -46,24 +46,26 @@ pub on_ok : {A E : Type 0} (r : Result A E) (P Q : Type 0) → (P → Q) → OnO
 on_ok (Ok x) P Q f p = f p
 on_ok (Err e) P Q f p = tt
 
+behind : (old piece text more : List ℕ) → text ≡ old ++ piece → text ++ more ≡ old ++ (piece ++ more)
+behind old piece text more e = ap (λ l. l ++ more) e ∙ append_assoc old piece more
+
 -- a row's answer behind what stands before it
-pub seen_piece : (row : Row) (old mid new why : List ℕ) → new ≡ mid ++ (why ++ 10 ∷ []) → mid ≡ old ++ (line_text row ++ (call_text row.call ++ codes " -> ")) → new ≡ old ++ row_text row why
+pub seen_piece : (row : Row) (old mid new why : List ℕ) → new ≡ mid ++ why ++ 10 ∷ [] → mid ≡ old ++ line_text row ++ call_text row.call ++ codes " -> " → new ≡ old ++ row_text row why
 seen_piece row old mid new why e f =
     let line = line_text row in
     let call = call_text row.call in
     let arrow = codes " -> " in
-    let end = why ++ 10 ∷ [] in
-    e ∙ (ap (λ l. l ++ end) f ∙ (append_assoc old (line ++ (call ++ arrow)) end ∙ ap (λ l. old ++ l) (append_assoc line (call ++ arrow) end ∙ ap (λ l. line ++ l) (append_assoc call arrow end))))
+    let front = behind old (line ++ call) (old ++ line ++ call) arrow (behind old line (old ++ line) call refl) in
+    e ∙ behind old (line ++ call ++ arrow ++ why) (mid ++ why) (10 ∷ []) (behind old (line ++ call ++ arrow) mid why (f ∙ front))
 
 -- no row is left
 pub part_none : (text : List ℕ) (table : List Path) (rows : List Row) (replies : List Reply) → rows ≡ [] → text ≡ text ++ part_text table rows replies
 part_none text table rows replies none = sym (append-nil text) ∙ ap (λ l. text ++ part_text table l replies) (sym none)
 
 -- three pieces were put, one behind the other
-pub whole_pieces : (one two three : List ℕ) (none first second third : List ℕ) → none ≡ [] → first ≡ none ++ one → second ≡ first ++ two → third ≡ second ++ three → third ≡ one ++ (two ++ three)
-whole_pieces one two three none first second third e a b c =
-    c ∙ (ap (λ l. l ++ three) (b ∙ ap (λ l. l ++ two) (a ∙ ap (λ l. l ++ one) e)) ∙ append_assoc one two three)
+pub whole_pieces : (one two three : List ℕ) (none first second third : List ℕ) → none ≡ [] → first ≡ none ++ one → second ≡ first ++ two → third ≡ second ++ three → third ≡ one ++ two ++ three
+whole_pieces one two three none first second third e a b c = c ∙ ap (λ l. l ++ three) (b ∙ ap (λ l. l ++ two) (a ∙ ap (λ l. l ++ one) e))
 
 -- and then a last one
-pub came_pieces : (one two three last : List ℕ) (none first second third text : List ℕ) → none ≡ [] → first ≡ none ++ one → second ≡ first ++ two → third ≡ second ++ three → text ≡ third ++ last → text ≡ (one ++ (two ++ three)) ++ last
+pub came_pieces : (one two three last : List ℕ) (none first second third text : List ℕ) → none ≡ [] → first ≡ none ++ one → second ≡ first ++ two → third ≡ second ++ three → text ≡ third ++ last → text ≡ one ++ two ++ three ++ last
 came_pieces one two three last none first second third text e a b c d = d ∙ ap (λ l. l ++ last) (whole_pieces one two three none first second third e a b c)
