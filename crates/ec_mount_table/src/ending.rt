@@ -97,6 +97,14 @@ fn end_one<N: Net, R: Around>(
     Some(One { told, boot, fault })
 }
 
+// The pass that made a volume's calls.
+fn pass_of<L: Link>(part: Part<L>) -> Pass<Node<L>>
+    ensures { result ≡ part.pass }
+{
+    let Part { pass, .. } = part;
+    pass
+}
+
 /// Ends the volumes, and gives their links back. `None` where memory was wanting.
 pub fn end_all<N: Net, R: Around>(
     rt: &R,
@@ -124,8 +132,7 @@ pub fn end_all<N: Net, R: Around>(
         let Some(part) = parts.pop() else {
             unreachable!();
         };
-        let Part { pass, .. } = part;
-        let one = end_one(rt, net, clerk, pass, is_done);
+        let one = end_one(rt, net, clerk, pass_of(part), is_done);
         all = joined(one, all);
     }
     all

@@ -1,5 +1,5 @@
-use Rattle.std.proofs.Common.{◌≡◌, ◌∙◌, ◌<◌, [], ◌∷◌, length, map, refl, sym, subst, arith}
-use Rattle.ec_lock.specs.PassViews.{first}
+use Rattle.std.proofs.Common.{◌≡◌, ◌∙◌, ◌<◌, [], ◌∷◌, length, map, None, refl, sym, subst, arith}
+use Rattle.ec_lock.specs.PassViews.{first, IsPassOf}
 use Rattle.ec_lock.specs.declared.types.Pass.{Pass}
 use Rattle.ec_lock.specs.declared.types.TracedLock.{TracedLock}
 use Rattle.ec_clerknode.specs.declared.shared.SharedClerk.{SharedClerk}
@@ -28,13 +28,14 @@ unreachable-requires g c =
     let parts = c.volumes.parts in
     let same = same_length lock_of pass_of clerks.items parts.items c.volumes.invariant.0 in
     let inside : 0 < length parts.items = omega (arith, same, clerks.ok.0, c.in-Some.ensures.cases) in
-    subst IsNothing (sym c.in_default.is ∙ c.pop-2.ensures.value (any_of parts.items 0 inside) (omega (arith, inside, parts.ok.0))) tt
+    subst IsNothing (sym c.in_default-pop.is ∙ c.pop-in-Some.ensures.value (any_of parts.items 0 inside) (omega (arith, inside, parts.ok.0))) tt
 
 pub end_one-one-requires-clause-pass : goal.end_one-one-requires-clause-pass
 end_one-one-requires-clause-pass g c κs within =
     let lock_of : SharedClerk g.row.N-Link.Denot g.row.N-Link-Bell.Denot → TracedLock (Node g.row.N-Link.Denot) Step = λ k. k.lock in
     let pass_of : Part g.row.N-Link.Denot g.row.N-Link-Bell.Denot → Pass (Node g.row.N-Link.Denot) Step = λ p. p.pass in
-    (seated_popped lock_of pass_of c.volumes.clerks.items c.pop.new.self.items c.volumes.parts.items c.pop-2.new.self.items c.in-Some.clerk c.in-Some-pop.part c.in-Some.ensures.items c.in-Some-pop.ensures.items c.volumes.invariant.0).1
+    subst (IsPassOf c.in-Some.clerk.lock) (sym c.pass_of.ensures)
+    (seated_popped lock_of pass_of c.volumes.clerks.items c.pop.new.self.items c.volumes.parts.items c.pop-in-Some.new.self.items c.in-Some.clerk c.in-Some-pop.part c.in-Some.ensures.items c.in-Some-pop.ensures.items c.volumes.invariant.0).1
 
 pub end_one-one-requires-clause-alone : goal.end_one-one-requires-clause-alone
 end_one-one-requires-clause-alone g c κs within =
@@ -51,13 +52,13 @@ volumes-preserved g c =
     let less = c.pop.new.self.items in
     let clerk = c.in-Some.clerk in
     let parts = c.volumes.parts.items in
-    let fewer = c.pop-2.new.self.items in
+    let fewer = c.pop-in-Some.new.self.items in
     let part = c.in-Some-pop.part in (
       (seated_popped lock_of pass_of clerks less parts fewer clerk part c.in-Some.ensures.items c.in-Some-pop.ensures.items c.volumes.invariant.0).0,
       each_left clerks less (clerk ∷ []) (λ place clerk. (first clerk.lock).linker ≡ None) c.in-Some.ensures.items c.volumes.invariant.1,
       c.end_one-one.ensures.later ∙ c.volumes.invariant.2,
-      left_next g.N.Link.Link.given g.N.Link.Link.got c.args.is_done lock_of pass_of (map lock_of c.args.clerks.items) (map pass_of c.args.parts.items) before mid after clerks less clerk parts fewer part c.end_one-one.result c.volumes.all c.joined.result
-          c.in-Some.ensures.items c.in-Some-pop.ensures.items c.volumes.invariant.3 c.end_one-one.ensures.ended c.joined.ensures,
+      left_next g.N.Link.Link.given g.N.Link.Link.got c.args.is_done lock_of pass_of (map lock_of c.args.clerks.items) (map pass_of c.args.parts.items) before mid after clerks less clerk parts fewer part c.end_one-one.result c.volumes.all c.joined-all.result
+          c.in-Some.ensures.items c.in-Some-pop.ensures.items c.volumes.invariant.3 (rw c.pass_of.ensures at c.end_one-one.ensures.ended) c.joined-all.ensures,
     )
 
 pub returns-clause-ended : goal.returns-clause-ended
@@ -67,5 +68,5 @@ returns-clause-ended g c =
     let before : NetSeen = record { faults = g.N.Net.faults c.args.net.now; bad = g.N.Net.bad c.args.net.now; ended = g.N.Net.ended c.args.net.now } in
     let now : NetSeen = record { faults = g.N.Net.faults c.volumes.net; bad = g.N.Net.bad c.volumes.net; ended = g.N.Net.ended c.volumes.net } in
     let clerks = c.volumes.clerks in
-    let none = none_where clerks.items clerks.len clerks.ok.0 c.in-None.ensures.cases.0 in
+    let none = none_where clerks.items clerks.len clerks.ok.0 c.in_default.ensures.cases.0 in
     left_over g.N.Link.Link.given g.N.Link.Link.got c.args.is_done lock_of pass_of (map lock_of c.args.clerks.items) (map pass_of c.args.parts.items) before now clerks.items c.volumes.parts.items c.volumes.all none c.volumes.invariant.0 c.volumes.invariant.3

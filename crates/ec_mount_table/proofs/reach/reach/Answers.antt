@@ -1,4 +1,3 @@
-use Rattle.std.proofs.Common.{◌×◌}
 use Rattle.ec_lock.specs.PassViews.{first}
 use Rattle.ec_lock.specs.declared.types.Pass.{Pass}
 use Rattle.ec_clerknode.specs.declared.shared.SharedClerk.{SharedClerk}
@@ -8,12 +7,12 @@ use Rattle.ec_mount.specs.Run.{NetSeen}
 use Rattle.ec_mount_table.proofs.Greetings.{greeted_of, not_greeted, passes_of, wants}
 use Rattle.ec_mount_table.proofs.reach.reach.Goals as goal
 
-pub returns-in-Err-clause-err : goal.returns-in-Err-clause-err
-returns-in-Err-clause-err g c =
+pub returns-in-Err-greet-clause-err : goal.returns-in-Err-greet-clause-err
+returns-in-Err-greet-clause-err g c =
     let before : NetSeen = record { faults = g.N.Net.faults c.args.net.now; bad = g.N.Net.bad c.args.net.now; ended = g.N.Net.ended c.args.net.now } in
     let called : NetSeen = record { faults = g.N.Net.faults c.call.new.self; bad = g.N.Net.bad c.call.new.self; ended = g.N.Net.ended c.call.new.self } in
     let now : NetSeen = record { faults = g.N.Net.faults c.greet.new.net; bad = g.N.Net.bad c.greet.new.net; ended = g.N.Net.ended c.greet.new.net } in
-    not_greeted c.args.who.now.clerk c.args.boot c.in-Ok.made.0 c.in-Ok.made.1.items c.deref.result.now before called now c.in-Ok.ensures.ok c.deref.ensures.value c.in-Ok-call.ensures.same c.in-Err.fault c.in-Err.ensures.err
+    not_greeted c.args.who.now.clerk c.args.boot c.in-Ok.made.0 c.in-Ok.made.1.items c.deref.result.now before called now c.in-Ok.ensures.ok c.deref.ensures.value c.in-Ok-call.ensures.same c.in-Err-greet.fault c.in-Err-greet.ensures.err
 
 pub returns-clause-pass : goal.returns-clause-pass
 returns-clause-pass g c = passes_of (λ (k : SharedClerk g.row.N-Link.Denot g.row.N-Link-Bell.Denot). k.lock) c.new.result c.new.ensures.pass

@@ -1,4 +1,4 @@
-use Rattle.std.proofs.Common.{◌≤◌, ◌×◌, None, Ok, Err, length, map, sym, subst, rules, arith}
+use Rattle.std.proofs.Common.{◌≤◌, None, Ok, Err, length, map, sym, subst, rules, arith}
 use Rattle.std.specs.String.{string_bytes}
 use Rattle.ec_lock.specs.PassViews.{first, front, IsPassOf}
 use Rattle.ec_lock.specs.declared.types.Pass.{Pass}
