@@ -13,8 +13,8 @@ use Rattle.ec_mount_table.proofs.Places.{all_of_each}
 use Rattle.ec_mount_table.proofs.Seating.{clerks_alone, locks_same, parts_fresh, parts_seated}
 use Rattle.ec_mount_table.proofs.reach.seat_all.Goals as goal
 
-pub new-requires : goal.new-requires
-new-requires g c =
+pub new-requires-after_bounds : goal.new-requires-after_bounds
+new-requires-after_bounds g c κs within =
     all_of_each (λ (one : Path × SharedClerk g.row.N-Link.Denot g.row.N-Link-Bell.Denot × Pass (Node g.row.N-Link.Denot) Step). IsPassOf one.1.lock one.2) c.reach_all-end.new.list.items c.reach_all-end.ensures.seated
 
 pub returns-clause-seated : goal.returns-clause-seated

@@ -53,5 +53,5 @@ returns-clause-works g c = λ id was before r.
     concluded id was table rows before after made.mets.items made.replies.items made.last c.end_all-ends.result c.conclude.result c.conclude.ensures
     (if_some _ _ c.end_all-ends.result
     (λ a e. works_made g.N.Link.Link.given g.N.Link.Link.got id was (length table) before now after locks passes (lists_of a.told) a.boot a.fault c.is_ok-is_done.result r e (omega (arith, many)) table rows many refl
-    made.mets.items made.replies.items (items_of made.last) (done_as made.last c.is_ok-is_done.result c.is_ok-is_done.ensures) all)
+    made.mets.items made.replies.items (items_of made.last) (done_as made.last c.is_ok-is_done.result c.is_ok-is_done.ensures.value) all)
     c.end_all-ends.ensures.ended)
