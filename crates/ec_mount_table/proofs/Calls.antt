@@ -1,6 +1,5 @@
 -- What the passes hold, one call more.
-use Rattle.std.proofs.Common.{◌≡◌, ◌⊎◌, ◌+◌, ◌<◌, ◌≤◌, ℕ, List, [], ◌∷◌, ◌++◌, length, Some, None, Result, Ok, Err, refl, sym, ap, ◌∙◌, subst, inl, inr, ⊎_elim, arith, append_assoc, append-nil}
-use Rattle.std.specs.Prelude.{map, slice_get}
+use Rattle.std.proofs.Common.{◌≡◌, ◌⊎◌, ◌+◌, ◌≤◌, ℕ, List, [], ◌∷◌, ◌++◌, length, Result, Ok, Err, refl, sym, ap, ◌∙◌, subst, ⊎_elim, arith, append-nil}
 use mathlib.Core.List.{IsPrefix}
 use Rattle.ec_plain.specs.declared.call.Call.{Call}
 use Rattle.ec_lock.specs.PassViews.{front}
@@ -11,7 +10,7 @@ use Rattle.ec_clerknode.specs.declared.state.Node.{Node}
 use Rattle.ec_clerknode.specs.declared.step.Step.{Step}
 use Rattle.ec_clerknode.specs.Node.{AnsweredAt}
 use Rattle.ec_clerknode.specs.Turns.{calls_by, BeganAt, Replied}
-use Rattle.ec_clerknode.specs.PassTurns.{Called, Failed}
+use Rattle.ec_clerknode.specs.PassTurns.{Called}
 use Rattle.ec_clerknode.specs.Lanes.{AreReplied, IsFront}
 use Rattle.ec_clerknode.proofs.Lists.{prefix_get}
 use Rattle.ec_clerknode.proofs.LaneCalls.{are_longer}

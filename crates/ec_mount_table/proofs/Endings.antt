@@ -1,6 +1,8 @@
 -- How calls over several volumes end.
-use Rattle.std.proofs.Common.{◌≡◌, ◌⊎◌, ◌+◌, ◌++◌, ℕ, List, [], Result, Ok, Err, refl, sym, ap, ◌∙◌, subst, inl, inr, ⊎_elim}
+use Rattle.std.proofs.Common.{◌≡◌, ◌+◌, ◌++◌, ℕ, List, [], Option, Result, Ok, Err, refl, sym, subst, inl, inr}
 use Rattle.std.proofs.KnownBytes.{Appends-nil}
+use Rattle.std.specs.Prelude.{Vec}
+use Rattle.std.specs.declared.alloc.Global.{Global}
 use Rattle.std.specs.Io.KnownBytes.{Appends}
 use Rattle.ec_history.specs.declared.shown.LimitName.TheVariants as limit
 use Rattle.ec_history.specs.declared.shown.Shown.TheVariants as shown
@@ -24,7 +26,7 @@ use Rattle.ec_mount_table.specs.Reading.{GivesNone}
 use Rattle.ec_mount_table.specs.Rows.{GivesRows}
 use Rattle.ec_mount_table.specs.Shown.{came_text, mounts_text}
 use Rattle.ec_mount_table.specs.Table.{Ends, MountsAll}
-use Rattle.ec_mount_table.specs.Going.{TellsAll, Works, WroteOr}
+use Rattle.ec_mount_table.specs.Going.{TellsAll, Works, WroteOr, items_of}
 use Rattle.ec_mount_table.specs.declared.script.Row.{Row}
 use Rattle.ec_mount_table.specs.declared.seen.Seen.{Seen}
 
@@ -94,3 +96,11 @@ module _ (id boot : ℕ) (table : List Path) (w : Outside) where
   told_of rows shown listed paths printed same alike are prints mets replies told last result given k p =
       told_end rows given mets replies told last result (subst (λ t. Works id boot t rows w.net w.net_after mets replies told last) are (subst (λ r. Works id boot paths r w.net w.net_after mets replies told last) same k))
       (subst (λ t. TellsAll t rows mets replies told last result w.held w.held_after w.writes w.writes_after) prints (subst (λ r. TellsAll printed r mets replies told last result w.held w.held_after w.writes w.writes_after) alike p))
+
+-- What is told of calls that met this, and of a fault.
+module _ (table : List Path) (rows : List Row) (mets : List Seen) (replies : List Reply) (told : List (List (List ℕ))) (result : Status) (held now : Option (List ℕ)) (before later : ℕ) where
+  pub tells_as : (last met : Result (Vec Reply Global) NodeFault) → last ≡ met → TellsAll table rows mets replies told (items_of met) result held now before later → TellsAll table rows mets replies told (items_of last) result held now before later
+  tells_as last met is t = subst (λ l. TellsAll table rows mets replies told (items_of l) result held now before later) (sym is) t
+
+  pub tells_fault : (f g : NodeFault) → f ≡ g → TellsAll table rows mets replies told (Err g) result held now before later → TellsAll table rows mets replies told (Err f) result held now before later
+  tells_fault f g same t = subst (λ h. TellsAll table rows mets replies told (Err h) result held now before later) (sym same) t

@@ -1,5 +1,5 @@
 -- One volume after another ends.
-use Rattle.std.proofs.Common.{◌≡◌, ◌⊎◌, ◌+◌, ◌<◌, ◌≤◌, ℕ, zero, suc, Bool, true, false, List, [], ◌∷◌, ◌++◌, length, Option, Some, None, Result, Ok, Err, IfSome, OnOk, refl, sym, ap, ◌∙◌, subst, inl, inr, ⊎_elim, arith, append_assoc, append-nil}
+use Rattle.std.proofs.Common.{◌≡◌, ◌⊎◌, ◌+◌, ◌<◌, ℕ, zero, suc, Bool, true, false, List, [], ◌∷◌, ◌++◌, length, Option, Some, None, Result, Ok, Err, IfSome, OnOk, refl, sym, ap, ◌∙◌, subst, ⊎_elim, arith, append_assoc, append-nil}
 use Rattle.std.specs.Prelude.{map, slice_get, Vec}
 use Rattle.std.specs.declared.alloc.Global.{Global}
 use mathlib.Core.List.{IsPrefix}
@@ -27,8 +27,8 @@ use Rattle.ec_mount.specs.Run.{NetSeen, Has}
 use Rattle.ec_mount.proofs.Causes.{failed_has, has_longer}
 use Rattle.ec_mount.proofs.Linking.{bad_of}
 use Rattle.ec_base.proofs.Lists.{prefix_self, prefix_trans}
-use Rattle.ec_mount_table.specs.Runs.{Each, HasOne, or_boot}
-use Rattle.ec_mount_table.specs.Going.{AllClosed, Both, ClosedOne, EndedAll, EndedOne, Parted, Said, SaidGoodbye, or_fault}
+use Rattle.ec_mount_table.specs.Runs.{or_boot}
+use Rattle.ec_mount_table.specs.Going.{AllClosed, ClosedOne, EndedAll, EndedOne, Parted, Said, SaidGoodbye, or_fault}
 use Rattle.ec_mount_table.specs.declared.ending.Ends.{Ends}
 use Rattle.ec_mount_table.specs.declared.ending.One.{One}
 use Rattle.ec_mount_table.proofs.Places.{each_cons}

@@ -1,5 +1,5 @@
 -- One volume after another is reached.
-use Rattle.std.proofs.Common.{◌≡◌, ◌⊎◌, ◌+◌, ◌<◌, ◌≤◌, ℕ, suc, List, [], ◌∷◌, ◌++◌, length, Option, Some, None, Result, Ok, Err, refl, sym, ap, ◌∙◌, subst, inl, inr, ⊎_elim, arith, append_assoc, append-nil}
+use Rattle.std.proofs.Common.{◌≡◌, ◌+◌, ◌≤◌, ℕ, List, [], ◌∷◌, ◌++◌, length, Option, Some, None, refl, sym, ap, ◌∙◌, subst, inl, inr, arith, append_assoc, append-nil}
 use Rattle.std.specs.Prelude.{map, slice_get}
 use Rattle.std.proofs.lemmas.List.{length-append}
 use Rattle.ec_base.specs.declared.counter.Counter.{Counter}
@@ -13,12 +13,12 @@ use Rattle.ec_clerknode.specs.declared.fault.NodeFault.{NodeFault}
 use Rattle.ec_clerknode.specs.declared.fault.NodeFault.TheVariants as fault
 use Rattle.ec_clerknode.specs.declared.state.Node.{Node}
 use Rattle.ec_clerknode.specs.declared.step.Step.{Step}
-use Rattle.ec_mount.specs.Run.{NetSeen, CameUnsent, LostUnsent, Unheard, Unreached}
-use Rattle.ec_mount_table.specs.Runs.{AreWithin, Each, links_at, view}
-use Rattle.ec_mount_table.specs.Going.{Greeted, NotReached, ReachedThese, ReachedNot, ReachedUpTo, ReachFails}
+use Rattle.ec_mount.specs.Run.{NetSeen, CameUnsent, LostUnsent}
+use Rattle.ec_mount_table.specs.Runs.{Each, links_at, view}
+use Rattle.ec_mount_table.specs.Going.{Greeted, NotReached, ReachedThese, ReachedNot, ReachFails}
 use Rattle.ec_mount_table.proofs.Links.{Link, ended_append, links_append, links_other, links_outside, links_own, tag, tagged, within_append, within_more, within_tag}
 use Rattle.ec_mount_table.proofs.Places.{each_none, each_snoc}
-use Rattle.ec_mounts.proofs.Seats.{get_inside, some_is}
+use Rattle.ec_mounts.proofs.Seats.{get_inside}
 
 -- no links came back for this volume since
 came_still : (outs : List Out) (p : ℕ) (before now later : NetSeen) (links more : List Link) → links_at p more ≡ [] → now.bad ≤ later.bad → CameUnsent outs (view p [] before) (view p links now) → CameUnsent outs (view p [] before) (view p (links ++ more) later)

@@ -1,25 +1,23 @@
 -- Rows and what they met, one row more.
-use Rattle.std.proofs.Common.{◌≡◌, ◌==◌, ◌⊎◌, ◌<◌, ◌+◌, ◌≤◌, ℕ, zero, suc, Bool, true, false, if◌then◌else◌, List, [], ◌∷◌, ◌++◌, length, take, drop, get_or, Option, Some, None, Result, Ok, Err, refl, sym, ap, ◌∙◌, subst, inl, inr, ⊎_elim, arith, append_assoc, append-nil}
-use Rattle.std.specs.Prelude.{map, slice_get, Vec}
+use Rattle.std.proofs.Common.{◌≡◌, ◌==◌, ◌⊎◌, ◌<◌, ◌+◌, ◌≤◌, ℕ, zero, suc, Bool, true, false, if◌then◌else◌, List, [], ◌∷◌, ◌++◌, length, take, drop, get_or, Some, None, Result, Ok, Err, refl, sym, ap, ◌∙◌, subst, ⊎_elim, arith, append_assoc, append-nil}
+use Rattle.std.specs.Prelude.{slice_get, Vec}
 use Rattle.std.specs.declared.alloc.Global.{Global}
 use Rattle.std.proofs.lemmas.Bool.{eqb-true, eqb-false}
 use Rattle.ec_plain.specs.Walk.{Path}
 use Rattle.ec_plain.specs.declared.call.Call.{Call}
 use Rattle.ec_plain.specs.declared.call.Call.TheVariants.{Sync}
-use Rattle.ec_lock.specs.PassViews.{front}
 use Rattle.ec_lock.specs.declared.types.Pass.{Pass}
 use Rattle.ec_outs.specs.Outs.{Reply}
 use Rattle.ec_clerknode.specs.declared.fault.NodeFault.{NodeFault}
 use Rattle.ec_clerknode.specs.declared.fault.NodeFault.TheVariants as fault
 use Rattle.ec_clerknode.specs.declared.state.Node.{Node}
 use Rattle.ec_clerknode.specs.declared.step.Step.{Step}
-use Rattle.ec_mount.specs.Run.{Has}
 use Rattle.ec_mount_words.specs.OfRoute.Calls.{call_below, paths_of}
 use Rattle.ec_mount_words.specs.OfRoute.Routes.{path_at, IsRoute}
 use Rattle.ec_mount_words.specs.declared.route.routes.Route.TheVariants as route
 use Rattle.ec_mounts.specs.Mounts.{MadeAt, Makes, Rests}
 use Rattle.ec_mount_table.specs.Rows.{AreSeen, IsTarget, asked_of, calls_at, replies_at, reply_in, reply_of, target}
-use Rattle.ec_mount_table.specs.Going.{Both, CallCame, CallCut, CameAt, Did, Holding, LastCame, MadeAll, PassHas, RowsCame, Stopped, SyncCame, SyncCut, Tried, Unless, items_of}
+use Rattle.ec_mount_table.specs.Going.{Both, CallCame, CallCut, CameAt, Did, Holding, LastCame, MadeAll, RowsCame, Stopped, SyncCame, SyncCut, Tried, Unless, items_of}
 use Rattle.ec_mount_table.specs.declared.script.Row.{Row}
 use Rattle.ec_mount_table.specs.declared.seen.Cut.{Cut}
 use Rattle.ec_mount_table.specs.declared.seen.Seen.{Seen}

@@ -9,7 +9,6 @@ use Rattle.ec_plain.specs.Walk.{Path}
 use Rattle.ec_plain.specs.declared.call.Call.{Call}
 use Rattle.ec_plain.specs.declared.call.Call.TheVariants.{Sync}
 use Rattle.ec_protocol.specs.Clerk.{start}
-use Rattle.ec_protocol.specs.declared.clerk.Out.{Out}
 use Rattle.ec_lock.specs.PassViews.{first, front}
 use Rattle.ec_lock.specs.declared.types.Pass.{Pass}
 use Rattle.ec_lock.specs.declared.types.TracedLock.{TracedLock}
@@ -23,8 +22,6 @@ use Rattle.ec_clerknode.specs.declared.state.Node.{Node}
 use Rattle.ec_clerknode.specs.declared.step.Step.{Step}
 use Rattle.ec_clerknode.specs.LaneRuns.{lists_of}
 use Rattle.ec_clerknode.specs.Lanes.{IsFront}
-use Rattle.ec_clerknode.specs.Parts.{parts}
-use Rattle.ec_clerknode.specs.PresentLink.{has_link}
 use Rattle.ec_clerknode.specs.Run.{told_by, old_boot, heard_by, said_by}
 use Rattle.ec_clerknode.specs.Turns.{calls_by, SaidBye}
 use Rattle.ec_clerknode.proofs.LaneCalls.{are_longer}
@@ -33,7 +30,7 @@ use Rattle.ec_mount.specs.Run.{NetSeen, AreTold, Has, Ran, Unheard}
 use Rattle.ec_mount.proofs.Causes.{has_longer, net_counted}
 use Rattle.ec_mount.proofs.Linking.{told_from}
 use Rattle.ec_mount_table.specs.Rows.{calls_at, next_at, replies_at, reply_in}
-use Rattle.ec_mount_table.specs.Runs.{AreNew, AreWithin, CutOff, Each, HasOne, HoldsCalls, HoldsToEnd, LostOne, MetOne, RanAll, ReachedFew, SpendsOne, first_boot, links_at, or_boot, view}
+use Rattle.ec_mount_table.specs.Runs.{AreNew, AreWithin, CutOff, Each, HasOne, LostOne, MetOne, RanAll, SpendsOne, first_boot, links_at, or_boot, view}
 use Rattle.ec_mount_table.specs.Table.{HoldsAll}
 use Rattle.ec_mount_table.specs.Going.{AllClosed, ClosedOne, EndedAll, Greeted, Holding, MadeAll, PassHas, Parted, ReachedThese, ReachFails, Stopped, Unless, Works, Concludes, backwards, items_of, last_fault, last_of}
 use Rattle.ec_mount_table.specs.declared.ending.Ends.{Ends}

@@ -1,5 +1,5 @@
 -- No public clause cites this module: it says what the private steps of a mount of several volumes do.
-use Rattle.std.specs.Prelude.{◌≡◌, ◌⊎◌, ◌<◌, ◌≤◌, ◌+◌, ℕ, Bool, true, false, List, [], ◌∷◌, ◌++◌, length, map, reverse, slice_get, Option, Some, None, Result, Ok, Err, IfSome, Vec}
+use Rattle.std.specs.Prelude.{◌≡◌, ◌⊎◌, ◌<◌, ◌≤◌, ◌+◌, ℕ, Bool, true, false, List, [], ◌∷◌, ◌++◌, length, map, slice_get, Option, Some, None, Result, Ok, Err, IfSome, Vec}
 use Rattle.std.specs.declared.alloc.Global.{Global}
 use mathlib.Core.List.{IsPrefix}
 use Rattle.ec_base.specs.declared.ids.Age.{Age}
@@ -37,7 +37,7 @@ use Rattle.ec_mount_words.specs.OfRoute.Routes.{AreOrdered}
 use Rattle.ec_mount_words.specs.declared.route.routes.Route.{Route}
 use Rattle.ec_mounts.specs.Mounts.{MadeAt, Makes, Rests}
 use Rattle.ec_mount_table.specs.Rows.{AreSeen, IsNext, IsPart, IsPartOf, IsTarget, asked_of, calls_at, next_at, replies_at, reply_in, reply_of, target}
-use Rattle.ec_mount_table.specs.Runs.{Each, HoldsCalls, RanAll, HasOne, AreNew, MetOne, CutOff, LostOne, SpendsOne, AreWithin, first_boot, links_at, view}
+use Rattle.ec_mount_table.specs.Runs.{Each, HoldsCalls, RanAll, HasOne, MetOne, LostOne, SpendsOne, AreWithin, first_boot, links_at, view}
 use Rattle.ec_mount_table.specs.Shown.{came_text, mounts_text}
 use Rattle.ec_mount_table.specs.Table.{HoldsAll}
 use Rattle.ec_mount_table.specs.declared.ending.Ends.{Ends}

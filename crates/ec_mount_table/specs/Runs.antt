@@ -1,5 +1,5 @@
 -- The runs of the clerks of several volumes, and what the net has of them.
-use Rattle.std.specs.Prelude.{◌≡◌, ◌==◌, ◌<◌, ◌≤◌, ◌⊎◌, ◌+◌, ℕ, List, [], ◌∷◌, ◌++◌, length, map, if◌then◌else◌, slice_get, Option, Some, None}
+use Rattle.std.specs.Prelude.{◌≡◌, ◌==◌, ◌<◌, ◌⊎◌, ◌+◌, ℕ, List, [], ◌∷◌, ◌++◌, length, map, if◌then◌else◌, slice_get, Option, Some, None}
 use mathlib.Core.List.{IsPrefix}
 use Rattle.ec_base.specs.declared.counter.Counter.{Counter}
 use Rattle.ec_base.specs.declared.ids.Age.{Age}
@@ -14,7 +14,7 @@ use Rattle.ec_clerknode.specs.declared.step.Step.{Step}
 use Rattle.ec_clerknode.specs.Run.{told_by, old_boot}
 use Rattle.ec_clerknode.specs.Turns.{calls_by, SaidBye}
 use Rattle.ec_clerknode.specs.Lanes.{AreReplied, IsFront}
-use Rattle.ec_mount.specs.Run.{NetSeen, Ran, Has, Unreached, Unheard}
+use Rattle.ec_mount.specs.Run.{NetSeen, Ran, Has, Unheard}
 use Rattle.ec_mount_words.specs.declared.route.routes.Route.{Route}
 use Rattle.ec_mount_table.specs.Rows.{AreSeen, IsNext, IsPart, calls_at, next_at, replies_at, reply_in}
 use Rattle.ec_mount_table.specs.declared.script.Row.{Row}

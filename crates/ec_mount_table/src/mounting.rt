@@ -1,5 +1,5 @@
 // The calls of a source over several volumes, and what is written of them.
-ghost use Rattle.std.specs.Prelude.{◌≡◌, ◌≤◌, ◌++◌, ℕ, List, map, IfOk};
+ghost use Rattle.std.specs.Prelude.{◌≡◌, ◌≤◌, ◌++◌, ℕ, List, Err, map, IfOk};
 ghost use Rattle.std.specs.String.{string_bytes};
 ghost use Rattle.ec_clerknode.specs.LaneRuns.{lists_of};
 ghost use Rattle.ec_link.specs.Spawns.{faults_of};
@@ -109,28 +109,44 @@ fn tell<K: Sink>(
             let text = whole_text(alloc, table, rows, answers, lasts);
             write_text(sink, text, Status::Done)
         }
-        Err(NodeFault::Net) => {
+        Err(fault) => tell_fault(alloc, sink, table, rows, answers, *fault),
+    }
+}
+
+// Tells what came before this fault, and the last line that it has.
+fn tell_fault<K: Sink>(
+    alloc: Global,
+    sink: &mut K,
+    table: &[Path],
+    rows: &[Row],
+    answers: &Answers,
+    fault: NodeFault,
+) -> Status
+    ensures later { K.faults sink.old ≤ K.faults sink.new }
+    ensures told { TellsAll table.now rows.now answers.now.mets.items answers.now.replies.items (lists_of answers.now.told) (Err fault) result
+        (K.held sink.old) (K.held sink.new) (K.faults sink.old) (K.faults sink.new) }
+{
+    match fault {
+        NodeFault::Net => {
             let text = came_line(alloc, table, rows, answers, Ok(Vec::new(alloc)));
             write_text(sink, text, Status::NetFault)
         }
-        Err(NodeFault::Peer(why)) => {
-            let line = peer_line(alloc, place_in(*why));
+        NodeFault::Peer(why) => {
+            let line = peer_line(alloc, place_in(why));
             let text = came_line(alloc, table, rows, answers, line);
             write_text(sink, text, Status::PeerFault)
         }
-        Err(NodeFault::Long(_)) => {
+        NodeFault::Long(_) => {
             let line = peer_line(alloc, 0);
             let text = came_line(alloc, table, rows, answers, line);
             write_text(sink, text, Status::PeerFault)
         }
-        Err(NodeFault::OldBoot(age)) => {
-            write_text(sink, old_boot_line(alloc, *age), Status::OldBoot)
-        }
-        Err(NodeFault::Spent(counter)) => {
-            let line = shown_line(alloc, Shown::Spent(*counter));
+        NodeFault::OldBoot(age) => write_text(sink, old_boot_line(alloc, age), Status::OldBoot),
+        NodeFault::Spent(counter) => {
+            let line = shown_line(alloc, Shown::Spent(counter));
             let text = came_line(alloc, table, rows, answers, line);
             write_text(sink, text, Status::Spent)
         }
-        Err(NodeFault::NoMemory) => Status::NoMemory,
+        NodeFault::NoMemory => Status::NoMemory,
     }
 }

@@ -1,6 +1,5 @@
 use Rattle.std.proofs.Common.{◌≡◌, None, map, vec_len}
 use Rattle.ec_lock.specs.PassViews.{first}
-use Rattle.ec_mount.specs.Run.{NetSeen}
 use Rattle.ec_mounts.specs.Mounts.{AreSeated}
 use Rattle.ec_mount_table.specs.Runs.{Each}
 use Rattle.ec_mount_table.proofs.Partings.{Left}

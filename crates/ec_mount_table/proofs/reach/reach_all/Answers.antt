@@ -1,7 +1,5 @@
-use Rattle.std.proofs.Common.{◌≤◌, None, Ok, Err, length, map, sym, subst, rules, arith}
+use Rattle.std.proofs.Common.{length, sym, subst, rules, arith}
 use Rattle.std.specs.String.{string_bytes}
-use Rattle.ec_lock.specs.PassViews.{first, front, IsPassOf}
-use Rattle.ec_lock.specs.declared.types.Pass.{Pass}
 use Rattle.ec_lock.specs.declared.types.TracedLock.{TracedLock}
 use Rattle.ec_clerknode.specs.declared.shared.SharedClerk.{SharedClerk}
 use Rattle.ec_clerknode.specs.declared.state.Node.{Node}

@@ -1,4 +1,4 @@
-use Rattle.std.proofs.Common.{length, map, sym, subst}
+use Rattle.std.proofs.Common.{length, sym, subst}
 use Rattle.ec_lock.specs.PassViews.{IsPassOf}
 use Rattle.ec_lock.specs.declared.types.Pass.{Pass}
 use Rattle.ec_lock.specs.declared.types.TracedLock.{TracedLock}

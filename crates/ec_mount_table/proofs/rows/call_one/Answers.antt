@@ -1,4 +1,4 @@
-use Rattle.std.proofs.Common.{map, refl, sym, subst, arith}
+use Rattle.std.proofs.Common.{map, arith}
 use Rattle.ec_lock.specs.declared.types.Pass.{Pass}
 use Rattle.ec_clerknode.specs.declared.state.Node.{Node}
 use Rattle.ec_clerknode.specs.declared.step.Step.{Step}

@@ -1,10 +1,10 @@
-use Rattle.std.proofs.Common.{map, ap, refl, sym, subst}
+use Rattle.std.proofs.Common.{map, ap, sym, subst}
 use Rattle.ec_lock.specs.declared.types.Pass.{Pass}
 use Rattle.ec_clerknode.specs.declared.state.Node.{Node}
 use Rattle.ec_clerknode.specs.declared.step.Step.{Step}
 use Rattle.ec_mounts.specs.declared.part.Part.{Part}
 use Rattle.ec_mount_table.specs.Going.{MadeAll, items_of}
-use Rattle.ec_mount_table.proofs.Sofar.{cut_made, made_last}
+use Rattle.ec_mount_table.proofs.Sofar.{made_last}
 use Rattle.ec_mount_table.proofs.rows.make_all.Goals as goal
 
 pub returns-in-Ok-clause-made : goal.returns-in-Ok-clause-made

@@ -1,10 +1,10 @@
-use Rattle.std.proofs.Common.{◌+◌, ◌∙◌, drop, map, take, Ok, Err, refl, sym, ap, subst, arith}
+use Rattle.std.proofs.Common.{◌+◌, ◌∙◌, drop, map, take, Ok, Err, refl, sym, subst, arith}
 use Rattle.ec_lock.specs.declared.types.Pass.{Pass}
 use Rattle.ec_clerknode.specs.declared.state.Node.{Node}
 use Rattle.ec_clerknode.specs.declared.step.Step.{Step}
 use Rattle.ec_mounts.specs.declared.part.Part.{Part}
 use Rattle.ec_mount_table.specs.Going.{CallCame, IsOrdered}
-use Rattle.ec_mount_table.proofs.Sofar.{Sofar, get_of, sofar_more, sofar_none, sofar_stops, take_all, take_next, take_whole, unless_wanting}
+use Rattle.ec_mount_table.proofs.Sofar.{Sofar, get_of, sofar_more, sofar_none, sofar_stops, take_all, take_next, take_whole}
 use Rattle.ec_mount_table.proofs.rows.make_rows.Goals as goal
 
 pub rows-init : goal.rows-init

@@ -2,9 +2,9 @@ use Rattle.std.proofs.Common.{◌+◌, ◌++◌, ◌∙◌, drop, map, ap, List,
 use Rattle.std.specs.Prelude.{Vec}
 use Rattle.std.specs.declared.alloc.Global.{Global}
 use Rattle.std.specs.List.{flat_map}
-use Rattle.ec_mount.proofs.Texts.{drop_all, drop_one}
+use Rattle.ec_mount.proofs.Texts.{drop_one}
 use Rattle.ec_mount_table.specs.Shown.{all_told_text, told_text}
-use Rattle.ec_mount_table.proofs.Pieces.{told_next, told_none, text_end, text_step}
+use Rattle.ec_mount_table.proofs.Pieces.{told_next, text_step}
 use Rattle.ec_mount_table.proofs.shown.put_all_told.Goals as goal
 
 pub table-preserved : goal.table-preserved

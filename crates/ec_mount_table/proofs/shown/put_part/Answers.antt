@@ -1,4 +1,4 @@
-use Rattle.std.proofs.Common.{◌≡◌, ◌++◌, ◌∙◌, drop, length, ◌≤◌, ap, sym}
+use Rattle.std.proofs.Common.{◌≡◌, ◌++◌, ◌∙◌, drop, length, ap, sym}
 use Rattle.std.proofs.lemmas.Bool.{ltb-false, ltb-true}
 use Rattle.ec_mount.proofs.Texts.{drop_all, drop_one}
 use Rattle.ec_mount_table.specs.Shown.{line_text, part_text, syncs_text}

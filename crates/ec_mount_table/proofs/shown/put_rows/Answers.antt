@@ -1,7 +1,7 @@
-use Rattle.std.proofs.Common.{◌+◌, ◌∙◌, drop, ap}
-use Rattle.ec_mount.proofs.Texts.{drop_all, drop_one}
+use Rattle.std.proofs.Common.{◌+◌, drop}
+use Rattle.ec_mount.proofs.Texts.{drop_one}
 use Rattle.ec_mount_table.specs.Shown.{seen_text, rows_text}
-use Rattle.ec_mount_table.proofs.Pieces.{rows_next, rows_none, rows_over, text_end, text_step}
+use Rattle.ec_mount_table.proofs.Pieces.{rows_next, text_step}
 use Rattle.ec_mount_table.proofs.shown.put_rows.Goals as goal
 
 pub rows-preserved : goal.rows-preserved

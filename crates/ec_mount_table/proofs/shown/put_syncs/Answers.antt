@@ -1,7 +1,7 @@
-use Rattle.std.proofs.Common.{◌+◌, ◌∙◌, drop, ap}
-use Rattle.ec_mount.proofs.Texts.{drop_all, drop_one}
+use Rattle.std.proofs.Common.{◌+◌, drop}
+use Rattle.ec_mount.proofs.Texts.{drop_one}
 use Rattle.ec_mount_table.specs.Shown.{sync_text, syncs_text}
-use Rattle.ec_mount_table.proofs.Pieces.{syncs_next, syncs_none, text_end, text_step}
+use Rattle.ec_mount_table.proofs.Pieces.{syncs_next, text_step}
 use Rattle.ec_mount_table.proofs.shown.put_syncs.Goals as goal
 
 pub table-preserved : goal.table-preserved

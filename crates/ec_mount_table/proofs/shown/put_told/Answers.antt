@@ -1,8 +1,8 @@
-use Rattle.std.proofs.Common.{◌+◌, ◌∙◌, drop, ap}
+use Rattle.std.proofs.Common.{◌+◌, drop, ap}
 use Rattle.std.specs.List.{flat_map}
-use Rattle.ec_mount.proofs.Texts.{drop_all, drop_one}
+use Rattle.ec_mount.proofs.Texts.{drop_one}
 use Rattle.ec_mount_table.specs.Shown.{told_text}
-use Rattle.ec_mount_table.proofs.Pieces.{text_end, text_step}
+use Rattle.ec_mount_table.proofs.Pieces.{text_step}
 use Rattle.ec_mount_table.proofs.shown.put_told.Goals as goal
 
 pub lists-preserved : goal.lists-preserved

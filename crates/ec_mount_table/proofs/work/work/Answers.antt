@@ -1,4 +1,4 @@
-use Rattle.std.proofs.Common.{◌∙◌, None, ap, map, sym, subst}
+use Rattle.std.proofs.Common.{None}
 use Rattle.std.specs.String.{string_bytes}
 use Rattle.ec_lock.specs.declared.types.Pass.{Pass}
 use Rattle.ec_lock.specs.declared.types.TracedLock.{TracedLock}
