@@ -32,7 +32,7 @@ use Rattle.ec_echo.specs.OfNamed.Soaks.{DoesSoak, SoaksOnce, made, transcribed}
 use Rattle.ec_echo.specs.Words.{Spells}
 use Rattle.ec_echo.specs.Written.{TellsText, WroteWith, WroteNothing}
 use Rattle.ec_echo.specs.declared.command.Command.{Command}
-use Rattle.ec_echo.specs.declared.command.Command.TheVariants.{Drill, Check, Make, Soak, Serve, Mount, Leases}
+use Rattle.ec_echo.specs.declared.command.Command.TheVariants.{Drill, Check, Make, Soak, Serve, Mount, Leases, MountTable}
 use Rattle.ec_echo.specs.declared.status.Status.{Status}
 use Rattle.ec_echo.specs.declared.status.Status.TheVariants as status
 
@@ -126,6 +126,7 @@ module _ (result : ℕ) (source sink : Stream) (store : Store) (is : result ≡ 
   disk-failed boot words n p (Check most, s, uses) = absurd (grind (arith, uses))
   disk-failed boot words n p (Make number, s, uses) = absurd (grind (arith, uses))
   disk-failed boot words n p (Mount clerk, s, uses) = absurd (grind (arith, uses))
+  disk-failed boot words n p (MountTable clerk, s, uses) = absurd (grind (arith, uses))
 
 -- the same promises, of equal mirrors
 pub promised-moved : {M : Type 0} (tells : Type 0) (view : M → View) (counts : M → Counts) (boot : ℕ) (words : List (List ℕ)) (result : ℕ) (source sink : Stream) (n : Links) (a b c d : M)

@@ -21,7 +21,7 @@ use Rattle.ec_echo.specs.Statuses.{code, of_drill, of_leases, of_mount}
 use Rattle.ec_echo.specs.Written.{TellsText, WroteWith}
 use Rattle.ec_echo.specs.Words.{Spells}
 use Rattle.ec_echo.specs.declared.command.Command.{Command}
-use Rattle.ec_echo.specs.declared.command.Command.TheVariants.{Drill, Check, Make, Soak, Serve, Mount, Leases}
+use Rattle.ec_echo.specs.declared.command.Command.TheVariants.{Drill, Check, Make, Soak, Serve, Mount, Leases, MountTable}
 use Rattle.ec_echo.specs.declared.status.Status.{Status}
 use Rattle.ec_echo.specs.declared.status.Status.TheVariants as status
 
@@ -120,19 +120,20 @@ leases_not lease.NoMemory e = absurd (grind (arith, e))
 leases_not lease.Limit e = absurd (grind (arith, e))
 leases_not lease.Spent e = absurd (grind (arith, e))
 
-does_not : (boot : ℕ) (c : Command) (w : Outside) (n : Links) → DoesForm boot c status.Usage w n → ⊥
-does_not boot (Drill most) w n d = drill_not most d.0.0 w d.0.2 d.0.1
-does_not boot (Check most) w n d = absurd (d.0.0.1)
-does_not boot (Make number) w n d = d.0.0
-does_not boot (Soak number) w n d = soaked_not number w d.0.0
-does_not boot (Serve count) w n d = ending_not d.0.0 w.sink.bytes w.sink.bytes_after w.sink.faults w.sink.faults_after d.0.2
-does_not boot (Mount clerk) w n d = mount_not d.0 d.1
-does_not boot (Leases l e) w n d = leases_not d.0.0 d.0.1
+does_not : (boot : ℕ) (words : List (List ℕ)) (c : Command) (w : Outside) (n : Links) → DoesForm boot words c status.Usage w n → ⊥
+does_not boot words (Drill most) w n d = drill_not most d.0.0 w d.0.2 d.0.1
+does_not boot words (Check most) w n d = absurd (d.0.0.1)
+does_not boot words (Make number) w n d = d.0.0
+does_not boot words (Soak number) w n d = soaked_not number w d.0.0
+does_not boot words (Serve count) w n d = ending_not d.0.0 w.sink.bytes w.sink.bytes_after w.sink.faults w.sink.faults_after d.0.2
+does_not boot words (Mount clerk) w n d = mount_not d.0 d.1
+does_not boot words (Leases l e) w n d = leases_not d.0.0 d.0.1
+does_not boot words (MountTable clerk) w n d = mount_not d.0 d.1
 
 -- words of no form, and no others, come to this status
 pub usage-of : (boot : ℕ) (words : List (List ℕ)) (st : Status) (w : Outside) (n : Links) → Echoes boot words st w n → (code st ≡ 2) ↔ ((c : Command) → Spells words c → ⊥)
 usage-of boot words st w n (inl e) = (λ two. e.1, λ none. ap code e.0)
-usage-of boot words st w n (inr e) = (λ two. absurd (does_not boot e.0 w n (subst (λ (s : Status). DoesForm boot e.0 s w n) (is_usage st two) e.2)), λ none. absurd (none e.0 e.1))
+usage-of boot words st w n (inr e) = (λ two. absurd (does_not boot words e.0 w n (subst (λ (s : Status). DoesForm boot words e.0 s w n) (is_usage st two) e.2)), λ none. absurd (none e.0 e.1))
 
 pub answers-usage : (boot : ℕ) (words : List (List ℕ)) (k : ℕ) (w : Outside) (n : Links) → (st : Status) × (k ≡ code st) × Echoes boot words st w n → (k ≡ 2) ↔ ((c : Command) → Spells words c → ⊥)
 answers-usage boot words k w n e = subst (λ (k : ℕ). (k ≡ 2) ↔ ((c : Command) → Spells words c → ⊥)) (sym e.1) (usage-of boot words e.0 w n e.2)

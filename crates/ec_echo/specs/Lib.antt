@@ -1,5 +1,6 @@
 pub mod Statuses
 pub mod Words
+pub mod Tables
 pub mod DiskUse
 pub mod NetUse
 pub mod Written
@@ -10,6 +11,7 @@ pub mod SoakDrills
 pub mod Serving
 pub mod Greeting
 pub mod Echo
+pub mod Mounting
 pub mod Forms
 pub mod Mirroring
 pub mod OfNamed

@@ -20,7 +20,7 @@ use Rattle.ec_echo.specs.Words.{Spells}
 use Rattle.ec_echo.specs.declared.command.Command.{Command}
 use Rattle.ec_echo.specs.declared.status.Status.{Status}
 use Rattle.ec_echo.specs.declared.status.Status.TheVariants as status
-use Rattle.ec_echo.specs.OfNamed.Forms.{OnDrill, OnCheck, OnMake, OnSoak, OnServe, OnMount, Asks, DoesDrill, DoesCheck, DoesMake, DoesServe, DoesMount, TouchesNothing, IsAlone, outside}
+use Rattle.ec_echo.specs.OfNamed.Forms.{OnDrill, OnCheck, OnMake, OnSoak, OnServe, OnMount, OnMounts, Asks, DoesDrill, DoesCheck, DoesMake, DoesServe, DoesMount, DoesMounts, TouchesNothing, IsAlone, outside}
 use Rattle.ec_echo.specs.OfNamed.Leases.{DoesLeases, LeaseBytes, LeaseCalls, LeaseHistory, LeaseLines, LeaseSessions, LeaseStores, OnLeases}
 use Rattle.ec_echo.specs.OfNamed.PlainLeases.{LeaseComplete}
 use Rattle.ec_echo.specs.OfNamed.Promises.{History, LinesInPlace, PlainReplies, ExactReports, LawfulLosses, Fsync, Room}
@@ -73,6 +73,7 @@ pub record FormsPromised (boot : ℕ) (words : List (List ℕ)) (result : ℕ) (
   pub soak : OnSoak words (DoesSoak result source sink store)
   pub serve : OnServe words (DoesServe result (outside source sink store) n)
   pub mount : OnMount words (DoesMount boot result (outside source sink store) n)
+  pub mounts : OnMounts words (DoesMounts boot words result (outside source sink store) n)
   pub leases : OnLeases words (DoesLeases result (outside source sink store))
 
 -- all that the program promises over one disk

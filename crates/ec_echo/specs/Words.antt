@@ -3,8 +3,9 @@ use Rattle.std.specs.Prelude.{◌≡◌, ◌⊎◌, ◌-◌, ◌^◌, ℕ, List,
 use Rattle.ec_words.specs.Spelling.{IsNumberIn, IsClerk}
 use Rattle.ec_durable.specs.WellFormed.{least_max_objects, most_max_objects}
 use Rattle.ec_drill.specs.Limits.{most_objects}
+use Rattle.ec_mount_words.specs.Mounts.{SpellsMounts}
 use Rattle.ec_echo.specs.declared.command.Command.{Command}
-use Rattle.ec_echo.specs.declared.command.Command.TheVariants.{Drill, Check, Make, Soak, Serve, Mount, Leases}
+use Rattle.ec_echo.specs.declared.command.Command.TheVariants.{Drill, Check, Make, Soak, Serve, Mount, Leases, MountTable}
 
 -- a word, and a number within these limits
 abbrev pub IsNumbered : List ℕ → ℕ → ℕ → List (List ℕ) → ℕ → Type 0
@@ -40,3 +41,4 @@ Spells words (Soak n) = IsNumbered (codes "soak") 0 (2 ^ 32 - 1) words n
 Spells words (Serve n) = IsAddressed (codes "serve") 1 1000000 words n
 Spells words (Mount c) = IsOfClerk (codes "mount") words c
 Spells words (Leases l e) = IsOfLeases (codes "leases") words l e
+Spells words (MountTable c) = SpellsMounts words c

@@ -1,12 +1,15 @@
 // What the words of the program ask for.
-ghost use Rattle.std.specs.Prelude.{◌≡◌, ℕ, List, [], ◌∷◌, map, codes, MatchOption, MatchBool};
+ghost use Rattle.std.specs.Prelude.{◌≡◌, ℕ, List, [], ◌∷◌, drop, map, codes, MatchOption, MatchBool};
 ghost use Rattle.std.specs.String.{string_bytes};
+ghost use Rattle.ec_mount_words.specs.Mounts.{AreMounts};
 ghost use Rattle.ec_echo.specs.Words.{Spells, IsAddress};
+ghost use Rattle.ec_echo.specs.Tables.{IsTable};
 ghost use Rattle.ec_echo.specs.DiskUse.{uses_disk};
 ghost use Rattle.ec_echo.specs.declared.command.Command.{Command};
 
 use ec_base::ClerkId;
 use ec_drill::MOST_OBJECTS;
+use ec_mount_words::{are_mounts, clerk_of_mounts};
 use ec_words::{clerk_of, number_in};
 
 /// What the program does.
@@ -26,6 +29,8 @@ pub enum Command {
     Mount(ClerkId),
     /// Drills a script with leases. They run for so long, and clocks differ by at most so much.
     Leases(u64, u64),
+    /// Runs calls over the volumes of a mount table by this clerk.
+    MountTable(ClerkId),
 }
 
 impl Command {
@@ -36,7 +41,8 @@ impl Command {
         match self {
             Command::Drill(_) | Command::Soak(_) | Command::Serve(_) | Command::Leases(_, _) =>
                 true,
-            Command::Check(_) | Command::Make(_) | Command::Mount(_) => false,
+            Command::Check(_) | Command::Make(_) | Command::Mount(_) | Command::MountTable(_) =>
+                false,
         }
     }
 }
@@ -44,6 +50,16 @@ impl Command {
 /// What these words ask for.
 pub fn command_of(words: &[String]) -> Option<Command>
     ensures { MatchOption result ((c : Command) → Spells (map string_bytes words.now) c → ⊥) (λ c. Spells (map string_bytes words.now) c) }
+{
+    match clerk_of_mounts(words) {
+        Some(clerk) => Some(Command::MountTable(clerk)),
+        None => short_command(words),
+    }
+}
+
+// What at most three words ask for, but for a mount table.
+fn short_command(words: &[String]) -> Option<Command>
+    ensures { MatchOption result ((c : Command) → Spells (map string_bytes words.now) c → IsTable c) (λ c. Spells (map string_bytes words.now) c) }
 {
     match words {
         [word] => alone(word.as_bytes()),
@@ -54,7 +70,7 @@ pub fn command_of(words: &[String]) -> Option<Command>
 }
 
 fn alone(word: &[u8]) -> Option<Command>
-    ensures { MatchOption result ((c : Command) → Spells (word.now ∷ []) c → ⊥) (λ c. Spells (word.now ∷ []) c) }
+    ensures { MatchOption result ((c : Command) → Spells (word.now ∷ []) c → IsTable c) (λ c. Spells (word.now ∷ []) c) }
 {
     if word == b"drill".as_slice() {
         return Some(Command::Drill(MOST_OBJECTS));
@@ -66,7 +82,7 @@ fn alone(word: &[u8]) -> Option<Command>
 }
 
 fn numbered(word: &[u8], number: &[u8]) -> Option<Command>
-    ensures { MatchOption result ((c : Command) → Spells (word.now ∷ number.now ∷ []) c → ⊥) (λ c. Spells (word.now ∷ number.now ∷ []) c) }
+    ensures { MatchOption result ((c : Command) → Spells (word.now ∷ number.now ∷ []) c → IsTable c) (λ c. Spells (word.now ∷ number.now ∷ []) c) }
 {
     if word == b"drill".as_slice() {
         return Some(Command::Drill(number_in(number, 32, 1_024)? as u32));
@@ -84,7 +100,7 @@ fn numbered(word: &[u8], number: &[u8]) -> Option<Command>
 }
 
 fn threefold(word: &[u8], addr: &[u8], last: &[u8]) -> Option<Command>
-    ensures { MatchOption result ((c : Command) → Spells (word.now ∷ addr.now ∷ last.now ∷ []) c → ⊥) (λ c. Spells (word.now ∷ addr.now ∷ last.now ∷ []) c) }
+    ensures { MatchOption result ((c : Command) → Spells (word.now ∷ addr.now ∷ last.now ∷ []) c → IsTable c) (λ c. Spells (word.now ∷ addr.now ∷ last.now ∷ []) c) }
 {
     if word == b"leases".as_slice() {
         return leases(addr, last);
@@ -103,7 +119,7 @@ fn threefold(word: &[u8], addr: &[u8], last: &[u8]) -> Option<Command>
 
 // How long Leases run, and by how much clocks differ at most, which is less.
 fn leases(length: &[u8], most: &[u8]) -> Option<Command>
-    ensures { MatchOption result ((c : Command) → Spells (codes "leases" ∷ length.now ∷ most.now ∷ []) c → ⊥) (λ c. Spells (codes "leases" ∷ length.now ∷ most.now ∷ []) c) }
+    ensures { MatchOption result ((c : Command) → Spells (codes "leases" ∷ length.now ∷ most.now ∷ []) c → IsTable c) (λ c. Spells (codes "leases" ∷ length.now ∷ most.now ∷ []) c) }
 {
     let length = number_in(length, 1, 1_000_000)?;
     let most = number_in(most, 0, length - 1)?;
@@ -127,5 +143,22 @@ pub fn address_of(words: &[String]) -> &str
     match words {
         [_, addr, _] => addr.as_str(),
         _ => "",
+    }
+}
+
+/// The words of a mount table, which stand behind the form and its clerk, or `None` where they are none.
+pub fn mounts_of(words: &[String]) -> Option<&[String]>
+    ensures { MatchOption result (AreMounts (drop 2 (map string_bytes words.now)) → ⊥)
+        (λ mounts. (map string_bytes mounts.now ≡ drop 2 (map string_bytes words.now)) × AreMounts (map string_bytes mounts.now)) }
+{
+    match words {
+        [_, _, mounts @ ..] => {
+            if are_mounts(mounts) {
+                Some(mounts)
+            } else {
+                None
+            }
+        }
+        _ => None,
     }
 }

@@ -15,6 +15,7 @@ mod command;
 mod making;
 mod memory;
 pub mod mirroring;
+mod mounting;
 pub mod named;
 mod serving;
 mod soaking;
@@ -32,6 +33,7 @@ use ec_link::{Around, Net, Spawner};
 use ec_mount::mount;
 use ec_serve::Listening;
 use making::make;
+use mounting::mount_all;
 use serving::serve;
 use soaking::soak;
 pub use status::Status;
@@ -92,6 +94,10 @@ pub fn run_words<R: Around + Eprint, S: Source, K: Sink, D: CrashDisk + Send, N:
         }
         Command::Leases(length, most) => {
             Status::of_leases(lease_drill(rt.alloc(), source, sink, disk, length, most)).code()
+        }
+        Command::MountTable(clerk) => {
+            let start = Start { rt, words, boot };
+            Status::of_mount(mount_all(start, source, sink, net, spawner, clerk)).code()
         }
     }
 }

@@ -11,7 +11,7 @@ ghost use Rattle.ec_echo.specs.OfNamed.Leases.{DoesLeases, LeaseBytes, LeaseCall
 ghost use Rattle.ec_echo.specs.OfNamed.PlainLeases.{LeaseComplete};
 ghost use Rattle.ec_echo.specs.OfNamed.Soaks.{DoesSoak};
 ghost use Rattle.ec_echo.specs.OfNamed.States.{StatesInOrder, DiskOfCut};
-ghost use Rattle.ec_echo.specs.OfNamed.Forms.{OnDrill, OnCheck, OnMake, OnSoak, OnServe, OnMount, Asks, DoesDrill, DoesCheck, DoesMake, DoesServe, DoesMount, TouchesNothing, IsAlone, outside, links};
+ghost use Rattle.ec_echo.specs.OfNamed.Forms.{OnDrill, OnCheck, OnMake, OnSoak, OnServe, OnMount, OnMounts, Asks, DoesDrill, DoesCheck, DoesMake, DoesServe, DoesMount, DoesMounts, TouchesNothing, IsAlone, outside, links};
 
 use crate::{Start, run_words};
 use ec_base::{Sink, Source};
@@ -72,6 +72,7 @@ pub fn echo_main<R: Around + Eprint, S: Source, K: Sink, D: CrashDisk + Send, N:
     ensures soak { OnSoak (map string_bytes words.now) (DoesSoak result (stream S.left S.faults source.old source.new) (stream K.held K.faults sink.old sink.new) (store D.tells D.view D.counts disk.old disk.new)) }
     ensures serve { OnServe (map string_bytes words.now) (DoesServe result (outside (stream S.left S.faults source.old source.new) (stream K.held K.faults sink.old sink.new) (store D.tells D.view D.counts disk.old disk.new)) (links N.faults N.bad N.ended faults_of net.old net.new spawner.old spawner.new)) }
     ensures mount { OnMount (map string_bytes words.now) (DoesMount boot result (outside (stream S.left S.faults source.old source.new) (stream K.held K.faults sink.old sink.new) (store D.tells D.view D.counts disk.old disk.new)) (links N.faults N.bad N.ended faults_of net.old net.new spawner.old spawner.new)) }
+    ensures mounts { OnMounts (map string_bytes words.now) (DoesMounts boot (map string_bytes words.now) result (outside (stream S.left S.faults source.old source.new) (stream K.held K.faults sink.old sink.new) (store D.tells D.view D.counts disk.old disk.new)) (links N.faults N.bad N.ended faults_of net.old net.new spawner.old spawner.new)) }
     ensures leases { OnLeases (map string_bytes words.now) (DoesLeases result (outside (stream S.left S.faults source.old source.new) (stream K.held K.faults sink.old sink.new) (store D.tells D.view D.counts disk.old disk.new))) }
     // Counts don't fall.
     ensures later { (S.faults source.old ≤ S.faults source.new) × (K.faults sink.old ≤ K.faults sink.new) }

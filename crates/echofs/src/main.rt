@@ -148,10 +148,10 @@ fn asked_objects(words: &[String]) -> Option<u32> {
     }
 }
 
-// The number of this start, for which a mount waits. The others use none.
+// The number of this start, for which mounts wait. The others use none.
 fn start_of(rt: HostRuntime, words: &[String]) -> u64 {
     match command_of(words) {
-        Some(Command::Mount(_)) => boot_of(&rt),
+        Some(Command::Mount(_) | Command::MountTable(_)) => boot_of(&rt),
         _ => 0,
     }
 }

@@ -9,6 +9,8 @@ const USAGE: &str = "usage:
   echofs leases L E < SCRIPT       carry out a script with leases of length L, and clocks that differ by at most E
   echofs serve ADDR COUNT          serve the disk over TCP at ADDR, until COUNT links have come and gone
   echofs mount ADDR CLERK < LANES  carry out lanes as clerk A to P of the server at ADDR
+  echofs mounts CLERK PATH=ADDR .. < CALLS
+                                   carry out calls over one to eight volumes, each of a server at ADDR, below PATH
 The manual is docs/echofs.1.
 echofs: the words are none of these";
 

@@ -35,10 +35,10 @@ use Rattle.ec_echo.proofs.Soaks.{soaked_by}
 use Rattle.ec_echo.specs.Statuses.{code, of_drill, of_leases, of_mount}
 use Rattle.ec_echo.specs.Words.{Spells}
 use Rattle.ec_echo.specs.declared.command.Command.{Command}
-use Rattle.ec_echo.specs.declared.command.Command.TheVariants.{Drill, Check, Make, Soak, Serve, Mount, Leases}
+use Rattle.ec_echo.specs.declared.command.Command.TheVariants.{Drill, Check, Make, Soak, Serve, Mount, Leases, MountTable}
 use Rattle.ec_echo.specs.declared.status.Status.{Status}
 use Rattle.ec_echo.specs.declared.status.Status.TheVariants as status
-use Rattle.ec_echo.specs.OfNamed.Forms.{Asks, DoesCheck, DoesDrill, DoesMake, DoesMount, DoesServe, IsAlone, OnCheck, OnDrill, OnMake, OnMount, OnServe, OnSoak, TouchesNothing, outside}
+use Rattle.ec_echo.specs.OfNamed.Forms.{Asks, DoesCheck, DoesDrill, DoesMake, DoesMount, DoesMounts, DoesServe, IsAlone, OnCheck, OnDrill, OnMake, OnMount, OnMounts, OnServe, OnSoak, TouchesNothing, outside}
 use Rattle.ec_echo.specs.OfNamed.Leases.{DoesLeases, LeaseBytes, LeaseCalls, LeaseHistory, LeaseLines, LeaseSessions, LeaseStores, OnLeases}
 use Rattle.ec_echo.specs.OfNamed.PlainLeases.{LeaseComplete}
 use Rattle.ec_echo.specs.OfNamed.Promises.{ExactReports, Fsync, History, IsExactAt, IsLawfulAt, IsPlainAt, LawfulLosses, LinesInPlace, OfEntries, PlainReplies, Room}
@@ -59,9 +59,9 @@ use Rattle.ec_echo.proofs.OfNamed.Words.{spells-once}
 abbrev pub Did : ℕ → List (List ℕ) → ℕ → Outside → Links → Type 0
 Did boot words result w n = (st : Status) × (result ≡ code st) × Echoes boot words st w n
 
-does-of : (boot : ℕ) (words : List (List ℕ)) (st : Status) (w : Outside) (n : Links) → Echoes boot words st w n → (c : Command) → Spells words c → DoesForm boot c st w n
+does-of : (boot : ℕ) (words : List (List ℕ)) (st : Status) (w : Outside) (n : Links) → Echoes boot words st w n → (c : Command) → Spells words c → DoesForm boot words c st w n
 does-of boot words st w n (inl none) c s = absurd (none.1 c s)
-does-of boot words st w n (inr did) c s = subst (λ (x : Command). DoesForm boot x st w n) (spells-once words did.0 c did.1 s) did.2
+does-of boot words st w n (inr did) c s = subst (λ (x : Command). DoesForm boot words x st w n) (spells-once words did.0 c did.1 s) did.2
 
 -- and back
 pub asked : (words : List (List ℕ)) (result : ℕ) → Asks words result → (result ≡ 2) ↔ ((c : Command) → Spells words c → ⊥)
@@ -90,6 +90,9 @@ module _ (boot : ℕ) (words : List (List ℕ)) (result : ℕ) (w : Outside) (n 
   pub does-mount : Did boot words result w n → OnMount words (DoesMount boot result w n)
   does-mount (st, is, did) c s = let d = does-of boot words st w n did (Mount c) s in (d.0, is ∙ ap code d.1, d.2, d.3, d.4, d.5)
 
+  pub does-mounts : Did boot words result w n → OnMounts words (DoesMounts boot words result w n)
+  does-mounts (st, is, did) c s = let d = does-of boot words st w n did (MountTable c) s in (d.0, is ∙ ap code d.1, d.2)
+
   pub does-leases : Did boot words result w n → OnLeases words (DoesLeases result w)
   does-leases (st, is, did) l e s = let d = does-of boot words st w n did (Leases l e) s in (d.0.0, is ∙ ap code d.0.1, d.0.2)
 
@@ -106,6 +109,7 @@ module _ (boot : ℕ) (words : List (List ℕ)) (result : ℕ) (w : Outside) (n 
   is-alone (st, is, inr (Serve k, s, does)) no_net = absurd (true_false (no_net (Serve k) s))
   is-alone (st, is, inr (Mount k, s, does)) no_net = absurd (true_false (no_net (Mount k) s))
   is-alone (st, is, inr (Leases l e, s, does)) no_net = does.1
+  is-alone (st, is, inr (MountTable k, s, does)) no_net = absurd (true_false (no_net (MountTable k) s))
 
 -- The parts of a legal history.
 
@@ -298,6 +302,7 @@ pub record AllForms (boot : ℕ) (words : List (List ℕ)) (result : ℕ) (sourc
   pub soak : OnSoak words (DoesSoak result source sink store)
   pub serve : OnServe words (DoesServe result (outside source sink store) n)
   pub mount : OnMount words (DoesMount boot result (outside source sink store) n)
+  pub mounts : OnMounts words (DoesMounts boot words result (outside source sink store) n)
   pub leases : OnLeases words (DoesLeases result (outside source sink store))
 
 pub say-all : (boot : ℕ) (words : List (List ℕ)) (result : ℕ) (source sink : Stream) (store : Store) (n : Links) → AllForms boot words result source sink store n → Did boot words result (outside source sink store) n
@@ -323,3 +328,4 @@ say-all boot words result source sink store n all = go all.usage
     go (inr (other, Serve k, s)) = let d = all.serve k s in (d.0, d.1, inr (Serve k, s, (d.2, d.3)))
     go (inr (other, Mount c, s)) = let d = all.mount c s in (of_mount d.0, d.1, inr (Mount c, s, (d.0, refl, d.2, d.3, d.4, d.5)))
     go (inr (other, Leases l e, s)) = let d = all.leases l e s in (of_leases d.0, d.1, inr (Leases l e, s, ((d.0, refl, d.2), no-net (Leases l e) refl s)))
+    go (inr (other, MountTable c, s)) = let d = all.mounts c s in (of_mount d.0, d.1, inr (MountTable c, s, (d.0, refl, d.2)))

@@ -1,11 +1,14 @@
 -- Words ask for one thing: the command of a form is told by its first word, and its numbers by the others.
-use Rattle.std.proofs.Common.{◌≡◌, ◌+◌, ◌-◌, ◌^◌, ◌<◌, ◌≤◌, ◌==◌, ◌&&◌, if◌then◌else◌, ℕ, Bool, true, false, List, [], ◌∷◌, codes, sym, ap, subst, ◌∙◌, inl, inr, arith, lit<}
+use Rattle.std.proofs.Common.{◌≡◌, ◌+◌, ◌-◌, ◌^◌, ◌<◌, ◌≤◌, ◌==◌, ◌&&◌, if◌then◌else◌, ℕ, Bool, true, false, List, [], ◌∷◌, Option, Some, None, codes, sym, ap, subst, ◌∙◌, inl, inr, arith, lit<}
+use Rattle.std.specs.Prelude.{MatchOption}
 use Rattle.std.specs.Str.Parse.{digits_value}
 use Rattle.std.proofs.lemmas.Fmt.{decimal_is_IsNumeral}
 use Rattle.ec_words.specs.Spelling.{IsNumberIn}
+use Rattle.ec_mount_words.specs.Mounts.{SpellsMounts}
+use Rattle.ec_echo.specs.Tables.{IsTable}
 use Rattle.ec_echo.specs.Words.{Spells}
 use Rattle.ec_echo.specs.declared.command.Command.{Command}
-use Rattle.ec_echo.specs.declared.command.Command.TheVariants.{Drill, Check, Make, Soak, Serve, Mount, Leases}
+use Rattle.ec_echo.specs.declared.command.Command.TheVariants.{Drill, Check, Make, Soak, Serve, Mount, Leases, MountTable}
 
 -- What words tell.
 
@@ -46,7 +49,8 @@ pick form words =
     else if same form (codes "soak") then Soak (value (second words))
     else if same form (codes "serve") then Serve (value (third words))
     else if same form (codes "mount") then Mount (letter (third words))
-    else Leases (value (second words)) (value (third words))
+    else if same form (codes "leases") then Leases (value (second words)) (value (third words))
+    else MountTable (letter (second words))
 
 asked : List (List ℕ) → Command
 asked [] = Drill 0
@@ -79,15 +83,31 @@ spelled words (Soak n) x = ap asked x.1 ∙ ap Soak (value-of x.0 0 (2 ^ 32 - 1)
 spelled words (Serve n) x = ap asked x.2 ∙ ap Serve (value-of x.1 1 1000000 n (lit< tt) x.4)
 spelled words (Mount c) x = ap asked x.2 ∙ ap Mount (letter-of x.1 c x.4.0)
 spelled words (Leases l e) x = ap asked x.2 ∙ ap (λ n. Leases n (value x.1)) (value-of x.0 1 1000000 l (lit< tt) x.3) ∙ ap (Leases l) (value-of x.1 0 (l - 1) e (below l x.3.1.1) x.4)
+spelled words (MountTable c) x = ap asked x.2 ∙ ap MountTable (letter-of x.0 c x.3.0)
 
 pub spells-once : (words : List (List ℕ)) (c d : Command) → Spells words c → Spells words d → c ≡ d
 spells-once words c d s t = sym (spelled words c s) ∙ spelled words d t
 
--- words of leases whose second number is within no limits ask for nothing
-pub no-most : (a b : List ℕ) (n : ℕ) → IsNumberIn 1 1000000 a n → ((e : ℕ) → IsNumberIn 0 (n - 1) b e → ⊥) → (c : Command) → Spells (codes "leases" ∷ a ∷ b ∷ []) c → ⊥
+-- words of leases whose second number is within no limits ask for nothing, a mount table aside
+pub no-most : (a b : List ℕ) (n : ℕ) → IsNumberIn 1 1000000 a n → ((e : ℕ) → IsNumberIn 0 (n - 1) b e → ⊥) → (c : Command) → Spells (codes "leases" ∷ a ∷ b ∷ []) c → IsTable c
 unfolding asked pick same second third value
 no-most a b n is none c s =
     let words : List (List ℕ) = codes "leases" ∷ a ∷ b ∷ [] in
     let t : Spells words (Leases (value a) (value b)) = subst (λ (d : Command). Spells words d) (sym (spelled words c s)) s in
     let last : IsNumberIn 0 (value a - 1) b (value b) = subst (λ (w : List ℕ). IsNumberIn 0 (value a - 1) w (value b)) (sym (ap third t.2)) t.4 in
-    none (value b) (subst (λ (k : ℕ). IsNumberIn 0 (k - 1) b (value b)) (value-of a 1 1000000 n (lit< tt) is) last)
+    absurd (none (value b) (subst (λ (k : ℕ). IsNumberIn 0 (k - 1) b (value b)) (value-of a 1 1000000 n (lit< tt) is) last))
+
+-- words of no mount table ask for nothing, where they ask for none of the other commands
+not-else : (words : List (List ℕ)) → ((c : ℕ) → SpellsMounts words c → ⊥) → (c : Command) → Spells words c → IsTable c → ⊥
+not-else words none (Drill n) s t = t
+not-else words none (Check n) s t = t
+not-else words none (Make n) s t = t
+not-else words none (Soak n) s t = t
+not-else words none (Serve n) s t = t
+not-else words none (Mount c) s t = t
+not-else words none (Leases l e) s t = t
+not-else words none (MountTable c) s t = none c s
+
+pub asked-else : (words : List (List ℕ)) → ((c : ℕ) → SpellsMounts words c → ⊥) → (other : Option Command) → MatchOption other ((c : Command) → Spells words c → IsTable c) (λ c. Spells words c) → MatchOption other ((c : Command) → Spells words c → ⊥) (λ c. Spells words c)
+asked-else words none None all = λ c s. not-else words none c s (all c s)
+asked-else words none (Some c) s = s

@@ -1,5 +1,5 @@
 use Rattle.std.proofs.Common.{refl, inl, inr}
-use Rattle.ec_echo.specs.declared.command.Command.TheVariants.{Drill, Check, Make, Soak, Serve, Mount, Leases}
+use Rattle.ec_echo.specs.declared.command.Command.TheVariants.{Drill, Check, Make, Soak, Serve, Mount, Leases, MountTable}
 use Rattle.ec_echo.specs.declared.status.Status.TheVariants as status
 use Rattle.ec_echo.specs.OfNamed.Seen.{stream}
 use Rattle.ec_drill.proofs.OfPromise.Completes.{drills-complete}
@@ -72,3 +72,13 @@ returns-in-Leases-clause-echoes g c =
 
 pub returns-in-Leases-clause-usage : goal.returns-in-Leases-clause-usage
 returns-in-Leases-clause-usage g c = answers-usage _ _ _ _ _ (returns-in-Leases-clause-echoes g c)
+
+pub returns-in-MountTable-clause-echoes : goal.returns-in-MountTable-clause-echoes
+returns-in-MountTable-clause-echoes g c =
+    (c.of_mount-in-MountTable.result, c.code-in-MountTable.ensures, inr (MountTable c.in-MountTable.clerk, rw c.in-MountTable.is at c.in-Some.ensures, (c.mount_all.result, c.of_mount-in-MountTable.ensures, (c.mount_all.ensures.mounted, record { gives = refl; crash = λ image h. h; counts = refl }, c.mount_all.ensures.starts))))
+
+pub returns-in-MountTable-clause-usage : goal.returns-in-MountTable-clause-usage
+returns-in-MountTable-clause-usage g c = answers-usage _ _ _ _ _ (returns-in-MountTable-clause-echoes g c)
+
+pub returns-in-MountTable-clause-net : goal.returns-in-MountTable-clause-net
+returns-in-MountTable-clause-net g c = (c.mount_all.ensures.later.2, starts_later c.mount_all.result _ _ c.mount_all.ensures.starts)

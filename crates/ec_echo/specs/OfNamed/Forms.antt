@@ -5,10 +5,12 @@ use Rattle.ec_drill.specs.declared.status.Status as drilled
 use Rattle.ec_link.specs.Nets.{Ended}
 use Rattle.ec_mount.specs.Mount.{Mounts, StartsAs}
 use Rattle.ec_mount.specs.declared.status.Status as mounted
+use Rattle.ec_mount_words.specs.Mounts.{SpellsMounts}
 use Rattle.ec_echo.specs.Check.{Judged}
 use Rattle.ec_echo.specs.Greeting.{Greets}
 use Rattle.ec_echo.specs.NetUse.{uses_net}
 use Rattle.ec_echo.specs.Serving.{Served}
+use Rattle.ec_echo.specs.Mounting.{MountsTable}
 use Rattle.ec_echo.specs.Echo.{Made, IsSourceUntouched, IsUntouched, Links, serving, mounting}
 use Rattle.ec_echo.specs.Statuses.{code, of_drill, of_mount}
 use Rattle.ec_echo.specs.Words.{IsNumbered, IsOfVolume, IsAddressed, IsOfClerk, Spells}
@@ -47,6 +49,9 @@ OnServe words P = (n : ℕ) → IsAddressed (codes "serve") 1 1000000 words n �
 abbrev pub OnMount : List (List ℕ) → (ℕ → Type 0) → Type 0
 OnMount words P = (c : ℕ) → IsOfClerk (codes "mount") words c → P c
 
+abbrev pub OnMounts : List (List ℕ) → (ℕ → Type 0) → Type 0
+OnMounts words P = (c : ℕ) → SpellsMounts words c → P c
+
 -- the words have no form, and the status is 2; or they have one, and it's another
 abbrev pub Asks : List (List ℕ) → ℕ → Type 0
 Asks words result = ((result ≡ 2) × ((c : Command) → Spells words c → ⊥)) ⊎ ((result ≡ 2 → ⊥) × (c : Command) × Spells words c)
@@ -70,6 +75,10 @@ DoesServe result w n count = (st : Status) × (result ≡ code st) × Served cou
 -- the script of lanes is run by this clerk, which greets with the boot that was given; a thread that couldn't be started has its status
 abbrev pub DoesMount : ℕ → ℕ → Outside → Links → ℕ → Type 0
 DoesMount boot result w n c = (end : mounted.Status) × (result ≡ code (of_mount end)) × Mounts c boot end (mounting w n) × Greets c boot end (mounting w n).net (mounting w n).net_after × IsDiskUntouched w × StartsAs end n.before.starts n.later.starts
+
+-- the calls of the source are carried out over the volumes of these words by this clerk: each status by its causes, with what was written
+abbrev pub DoesMounts : ℕ → List (List ℕ) → ℕ → Outside → Links → ℕ → Type 0
+DoesMounts boot words result w n c = (end : mounted.Status) × (result ≡ code (of_mount end)) × MountsTable boot words c end w n
 
 -- words of no form touch nothing
 abbrev pub TouchesNothing : List (List ℕ) → Outside → Links → Type 0

@@ -27,6 +27,7 @@ returns-clause-echoes g c =
       soak = e.soak;
       serve = e.serve;
       mount = e.mount;
+      mounts = e.mounts;
       leases = e.leases;
     }) in
     (did.0, c.end.ensures ∙ did.1, did.2)

@@ -49,6 +49,7 @@ returns-clause-promised g c =
         soak = e.soak;
         serve = e.serve;
         mount = e.mount;
+        mounts = e.mounts;
         leases = e.leases;
       };
     })

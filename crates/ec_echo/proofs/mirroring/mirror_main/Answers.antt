@@ -47,6 +47,7 @@ returns-then-not-use_disk-clause-diskless g c none =
         soak = e.soak;
         serve = e.serve;
         mount = e.mount;
+        mounts = e.mounts;
         leases = e.leases;
       };
     }

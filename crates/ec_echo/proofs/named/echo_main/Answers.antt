@@ -1,5 +1,5 @@
 use Rattle.ec_machine_laws.proofs.OfNodeLaws.Claims.{claims-first}
-use Rattle.ec_echo.proofs.OfNamed.Promised.{are-in-order, are-placed, asks, covers-fsync, does-check, does-drill, does-leases, does-make, does-mount, does-serve, does-soak, has-bytes, has-causes, has-history, has-lease-bytes, has-lease-calls, has-lease-complete, has-lease-disk, has-lease-history, has-lease-lines, has-lease-sessions, has-left, has-losses, has-own, has-replies, has-reports, has-sessions, is-alone, is-behind, is-complete, is-stored, is-together, tells-room, tells-spent, touches-nothing}
+use Rattle.ec_echo.proofs.OfNamed.Promised.{are-in-order, are-placed, asks, covers-fsync, does-check, does-drill, does-leases, does-make, does-mount, does-mounts, does-serve, does-soak, has-bytes, has-causes, has-history, has-lease-bytes, has-lease-calls, has-lease-complete, has-lease-disk, has-lease-history, has-lease-lines, has-lease-sessions, has-left, has-losses, has-own, has-replies, has-reports, has-sessions, is-alone, is-behind, is-complete, is-stored, is-together, tells-room, tells-spent, touches-nothing}
 use Rattle.ec_echo.specs.OfNamed.Seen.{stream, store}
 use Rattle.ec_echo.proofs.named.echo_main.Goals as goal
 
@@ -115,6 +115,9 @@ returns-clause-serve g c = does-serve _ _ _ _ _ c.run_words.ensures.echoes
 
 pub returns-clause-mount : goal.returns-clause-mount
 returns-clause-mount g c = does-mount _ _ _ _ _ c.run_words.ensures.echoes
+
+pub returns-clause-mounts : goal.returns-clause-mounts
+returns-clause-mounts g c = does-mounts _ _ _ _ _ c.run_words.ensures.echoes
 
 pub returns-clause-untouched : goal.returns-clause-untouched
 returns-clause-untouched g c = touches-nothing _ _ _ _ _ c.run_words.ensures.echoes
