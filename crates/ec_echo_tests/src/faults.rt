@@ -82,15 +82,20 @@ const LANES: &[u8] = b"1 create /f\n1 write /f 0 hi\n2 stat /\n";
 // A line of no lane.
 const NO_LANE: &[u8] = b"1 stat /\n9 stat /\n";
 
+const PLAIN: &[u8] = b"create /v/f\nstat /v\n";
+
+// A line that is no call.
+const NO_CALL: &[u8] = b"stat /v\n9 stat /v\n";
+
 // The words, the input, what fails, the status and what is written.
 type Row<'a> = (&'a str, &'a [u8], Fails, u8, &'a [u8]);
 
-// A check uses no disk, a soak and a server no source, and a mount no disk. A server's disk is opened before its door, and a mount reads its
-// script before it calls.
+// A check uses no disk, a soak and a server no source, and mounts no disk. A server's disk is opened before its door, and mounts read their
+// script before they call.
 #[test]
 fn tells_faults(rt: HostRuntime) {
     drop::<NetTypes>((None, None));
-    let rows: [Row; 16] = [
+    let rows: [Row; 22] = [
         ("drill", CALLS, SOURCE, 4, b""),
         ("drill", CALLS, LATE_SOURCE, 4, b""),
         ("drill", CALLS, SINK, 5, b""),
@@ -107,6 +112,12 @@ fn tells_faults(rt: HostRuntime) {
         ("mount here A", LANES, LATE_SOURCE, 4, b""),
         ("mount here A", NO_LANE, NONE, 3, b"bad 2 col 1\n"),
         ("mount here A", NO_LANE, SINK, 5, b""),
+        ("mounts A /v=here", PLAIN, NONE, 8, b""),
+        ("mounts A /v=here", PLAIN, SOURCE, 4, b""),
+        ("mounts A /v=here", PLAIN, LATE_SOURCE, 4, b""),
+        ("mounts A /v=here", NO_CALL, NONE, 3, b"bad 2 col 1\n"),
+        ("mounts A /v=here", NO_CALL, SINK, 5, b""),
+        ("mounts A /v=x=y", PLAIN, NONE, 8, b""),
     ];
     for (words, input, fails, status, text) in rows {
         assert!(rt; tells(&rt, words, input, fails, status, text));

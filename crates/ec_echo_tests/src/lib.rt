@@ -22,3 +22,5 @@ mod runs;
 mod serving;
 #[cfg(test)]
 mod settling;
+#[cfg(test)]
+mod volumes;
