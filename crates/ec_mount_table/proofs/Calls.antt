@@ -17,8 +17,8 @@ use Rattle.ec_clerknode.proofs.LaneCalls.{are_longer}
 use Rattle.ec_mount.specs.Run.{Has}
 use Rattle.ec_mount.proofs.Causes.{failed_has, has_longer}
 use Rattle.ec_mounts.specs.Mounts.{Makes, Rests}
-use Rattle.ec_mount_table.specs.Runs.{Each, HoldsCalls}
-use Rattle.ec_mount_table.specs.Going.{Both, Did, Holding, Tried}
+use Rattle.ec_mount_table.specs.Runs.{Each}
+use Rattle.ec_mount_table.specs.Going.{Both, Did, Holding, HoldsCalls, Tried}
 use Rattle.ec_mount_table.proofs.Places.{get_other}
 use Rattle.ec_mounts.proofs.Seats.{get_inside}
 

@@ -10,7 +10,7 @@ use Rattle.ec_words.specs.Spelling.{IsPathText}
 use Rattle.ec_words.specs.Calls.{Asks, SpellsCall}
 use Rattle.ec_words.specs.Words.{words_of}
 use Rattle.ec_mount_words.specs.OfRoute.Calls.{paths_of}
-use Rattle.ec_mount_words.specs.OfRoute.Routes.{AreOrdered}
+use Rattle.ec_mount_words.specs.OfRoute.Conditions.{AreOrdered}
 use Rattle.ec_mount_table.specs.Rows.{AreRows}
 use Rattle.ec_mount_table.specs.Runs.{Each}
 use Rattle.ec_mount_table.specs.Going.{IsOrdered}

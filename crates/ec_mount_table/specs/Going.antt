@@ -24,7 +24,7 @@ use Rattle.ec_clerknode.specs.PresentLink.{has_link}
 use Rattle.ec_clerknode.specs.Run.{IsRun, AreSaid, heard_by, said_by, told_by, old_boot}
 use Rattle.ec_clerknode.specs.RunEnds.{nets}
 use Rattle.ec_clerknode.specs.Turns.{calls_by, SaidBye}
-use Rattle.ec_clerknode.specs.Lanes.{IsFront}
+use Rattle.ec_clerknode.specs.Lanes.{AreReplied, IsFront}
 use Rattle.ec_mount.specs.Run.{NetSeen, CameUnsent, Has, Unheard, Unreached}
 use Rattle.ec_mount.specs.Run.{place_in}
 use Rattle.ec_mount.specs.Shown.{old_boot_text, peer_text}
@@ -33,11 +33,11 @@ use Rattle.ec_mount.specs.Writes.{WroteAs, Silent}
 use Rattle.ec_mount.specs.declared.status.Status.{Status}
 use Rattle.ec_mount.specs.declared.status.Status.TheVariants as status
 use Rattle.ec_mount_words.specs.OfRoute.Calls.{call_below, paths_of}
-use Rattle.ec_mount_words.specs.OfRoute.Routes.{AreOrdered}
+use Rattle.ec_mount_words.specs.OfRoute.Conditions.{AreOrdered}
 use Rattle.ec_mount_words.specs.declared.route.routes.Route.{Route}
 use Rattle.ec_mounts.specs.Mounts.{MadeAt, Makes, Rests}
 use Rattle.ec_mount_table.specs.Rows.{AreSeen, IsNext, IsPart, IsPartOf, IsTarget, asked_of, calls_at, next_at, replies_at, reply_in, reply_of, target}
-use Rattle.ec_mount_table.specs.Runs.{Each, HoldsCalls, RanAll, HasOne, MetOne, LostOne, SpendsOne, AreWithin, first_boot, links_at, view}
+use Rattle.ec_mount_table.specs.Runs.{Each, RanAll, HasOne, MetOne, LostOne, SpendsOne, AreWithin, first_boot, links_at, view}
 use Rattle.ec_mount_table.specs.Shown.{came_text, mounts_text}
 use Rattle.ec_mount_table.specs.Table.{HoldsAll}
 use Rattle.ec_mount_table.specs.declared.ending.Ends.{Ends}
@@ -59,6 +59,10 @@ Unless fault.NoMemory P = Unit {0}
 -- so it is at each place of two lists of one length
 abbrev pub Both : {A B : Type 0} → List A → List B → (ℕ → A → B → Type 0) → Type 0
 Both {A = A} {B = B} xs ys P = (length ys ≡ length xs) × ((place : ℕ) (x : A) (y : B) → slice_get xs place ≡ Some x → slice_get ys place ≡ Some y → P place x y)
+
+-- just these calls were begun, in order and each once, and have these answers
+abbrev pub HoldsCalls : List Call → List Step → List Reply → Type 0
+HoldsCalls calls steps replies = (calls_by 0 steps ≡ calls) × AreReplied 0 steps 0 calls replies
 
 -- a call with paths, or a sync
 abbrev pub IsOrdered : Call → Type 0

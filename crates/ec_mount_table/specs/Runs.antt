@@ -63,11 +63,7 @@ first_boot (steps ∷ runs) = or_boot (old_boot steps) (first_boot runs)
 abbrev pub HasOne : NodeFault → List (List Step) → Type 0
 HasOne f runs = (place : ℕ) × (steps : List Step) × (slice_get runs place ≡ Some steps) × Has f steps
 
--- just these calls were begun, in order and each once, and have these answers
-abbrev pub HoldsCalls : List Call → List Step → List Reply → Type 0
-HoldsCalls calls steps replies = (calls_by 0 steps ≡ calls) × AreReplied 0 steps 0 calls replies
-
--- the same, and then a goodbye was said
+-- Just these calls were begun, in order and each once, and have these answers; and then a goodbye was said.
 pub record HoldsToEnd (calls : List Call) (steps : List Step) (replies : List Reply) : Type 0 where
   pub begun : calls_by 0 steps ≡ calls
   -- the list behind the last call

@@ -2,7 +2,7 @@
 ghost use Rattle.std.specs.Prelude.{◌≡◌, ◌<◌, [], length, map, MatchBool};
 ghost use Rattle.ec_plain.specs.declared.call.Call.TheVariants.{Sync};
 ghost use Rattle.ec_mount_words.specs.OfRoute.Calls.{paths_of};
-ghost use Rattle.ec_mount_words.specs.OfRoute.Routes.{AreOrdered};
+ghost use Rattle.ec_mount_words.specs.OfRoute.Conditions.{AreOrdered};
 ghost use Rattle.ec_clerknode.specs.declared.fault.NodeFault.TheVariants as fault;
 ghost use Rattle.ec_mounts.specs.Mounts.{AreSeated};
 ghost use Rattle.ec_mount_table.specs.Runs.{Each};

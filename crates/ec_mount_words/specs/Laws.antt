@@ -8,7 +8,8 @@ use Rattle.ec_base.specs.Names.{is_slash, names_fault, path_fault, path_names}
 use Rattle.ec_base.specs.declared.name.PathFault.{PathFault}
 use Rattle.ec_base.specs.declared.name.PathFault.TheVariants as unread
 use Rattle.ec_words.specs.Rows.{Word}
-use Rattle.ec_mount_words.specs.OfRoute.Routes.{path_at, AreApart}
+use Rattle.ec_mount_words.specs.OfRoute.Conditions.{AreApart}
+use Rattle.ec_mount_words.specs.OfRoute.Routes.{path_at}
 use Rattle.ec_mount_words.specs.Mounts.{path_bytes, mount_path, IsMount, IsNew, AreAll}
 use Rattle.ec_base.specs.SortedLaws.{not_None}
 

@@ -1,3 +1,4 @@
 pub mod Calls
+pub mod Conditions
 pub mod Laws
 pub mod Routes

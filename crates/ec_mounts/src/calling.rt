@@ -1,7 +1,8 @@
 // Calls over the volumes of a table, whose clerks other threads may share.
 ghost use Rattle.std.specs.Prelude.{◌≡◌, ◌<◌, ◌≤◌, Some, length, map, slice_index_or};
 ghost use Rattle.ec_mount_words.specs.OfRoute.Calls.{paths_of};
-ghost use Rattle.ec_mount_words.specs.OfRoute.Routes.{AreOrdered, path_at};
+ghost use Rattle.ec_mount_words.specs.OfRoute.Conditions.{AreOrdered};
+ghost use Rattle.ec_mount_words.specs.OfRoute.Routes.{path_at};
 ghost use Rattle.ec_mounts.specs.Mounts.{AreSeated, MadeAt, raised_reply, SyncedAll, Went, WentTo};
 ghost use Rattle.ec_mounts.specs.Parts.{Gathers};
 

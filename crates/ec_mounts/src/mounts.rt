@@ -4,7 +4,7 @@ ghost use Rattle.std.specs.List.{All};
 ghost use Rattle.ec_lock.specs.PassViews.{IsPassOf};
 ghost use Rattle.ec_clerknode.specs.declared.fault.NodeFault.TheVariants as fault;
 ghost use Rattle.ec_mount_words.specs.OfRoute.Calls.{paths_of};
-ghost use Rattle.ec_mount_words.specs.OfRoute.Routes.{AreOrdered};
+ghost use Rattle.ec_mount_words.specs.OfRoute.Conditions.{AreOrdered};
 ghost use Rattle.ec_mounts.specs.Mounts.{AllRest, AreSeated, Ends, SyncedAll, Went, told_from};
 
 use crate::calling::{call_over, sync_over};

@@ -5,7 +5,8 @@ use Rattle.std.proofs.lemmas.Bool.{cases_eq, eqb-true, eqb-false, not-false, not
 use Rattle.std.proofs.lemmas.Option.{slice_get_cases, slice_get_within, unwrap_or-slice_get}
 use Rattle.ec_plain.specs.Walk.{Path}
 use Rattle.ec_mount_words.specs.declared.route.routes.Route.TheVariants.{To, NoVolume, CrossVolume}
-use Rattle.ec_mount_words.specs.OfRoute.Routes.{path_at, Goes, HasVolume, HasNoVolume, IsRoute, AreOrdered}
+use Rattle.ec_mount_words.specs.OfRoute.Conditions.{AreOrdered}
+use Rattle.ec_mount_words.specs.OfRoute.Routes.{path_at, Goes, HasVolume, HasNoVolume, IsRoute}
 
 -- Each of the first paths has a volume. The first one goes to this place, and unless two go to different ones they all do.
 pub record AreSeen (table paths : List Path) (upto to : ℕ) (crosses : Bool) : Type 0 where

@@ -6,7 +6,8 @@ use mathlib.Core.List.{IsPrefix}
 use Rattle.ec_plain.specs.Walk.{Path}
 use Rattle.ec_mount_words.specs.declared.route.routes.Route.{Route}
 use Rattle.ec_mount_words.specs.declared.route.routes.Route.TheVariants.{To, NoVolume, CrossVolume}
-use Rattle.ec_mount_words.specs.OfRoute.Routes.{path_at, Goes, HasVolume, HasNoVolume, AreOrdered, IsRoute, AreApart}
+use Rattle.ec_mount_words.specs.OfRoute.Conditions.{AreOrdered, AreApart}
+use Rattle.ec_mount_words.specs.OfRoute.Routes.{path_at, Goes, HasVolume, HasNoVolume, IsRoute}
 
 -- fronts of one path that have as many names are equal
 front_is : (front path : Path) → IsPrefix front path → take (length front) path ≡ front

@@ -1,7 +1,6 @@
 -- Which volume of a mount table a path goes to, and which one a call. A table is the list of its mount paths.
 use Rattle.std.specs.Prelude.{◌≡◌, ◌≢◌, ◌+◌, ◌<◌, ◌≤◌, ℕ, List, [], length, get_or}
 use mathlib.Core.List.{IsPrefix}
-use Rattle.ec_volume.specs.Limits.{max_ordered}
 use Rattle.ec_plain.specs.Walk.{Path}
 use Rattle.ec_mount_words.specs.declared.route.routes.Route.{Route}
 use Rattle.ec_mount_words.specs.declared.route.routes.Route.TheVariants.{To, NoVolume, CrossVolume}
@@ -22,10 +21,6 @@ HasVolume table path = (place : ℕ) × Goes table path place
 abbrev pub HasNoVolume : List Path → Path → Type 0
 HasNoVolume table path = (i : ℕ) → i < length table → IsPrefix (path_at table i) path → ⊥
 
--- the paths of a call that has some
-abbrev pub AreOrdered : List Path → Type 0
-AreOrdered paths = (1 ≤ length paths) × (length paths ≤ max_ordered)
-
 -- Where a call with these paths goes: to the one volume to which each path goes, or nowhere. The number of a path is from 1.
 abbrev pub IsRoute : List Path → List Path → Route → Type 0
 IsRoute table paths (To place) = (i : ℕ) → i < length paths → Goes table (path_at paths i) place
@@ -34,7 +29,3 @@ IsRoute table paths (NoVolume number) =
 IsRoute table paths CrossVolume =
     ((i : ℕ) → i < length paths → HasVolume table (path_at paths i))
     × ((i : ℕ) × (j : ℕ) × (to : ℕ) × (other : ℕ) × (i < length paths) × (j < length paths) × Goes table (path_at paths i) to × Goes table (path_at paths j) other × (to ≢ other))
-
--- no two volumes have one mount path
-abbrev pub AreApart : List Path → Type 0
-AreApart table = (i j : ℕ) → i < length table → j < length table → path_at table i ≡ path_at table j → i ≡ j

@@ -2,7 +2,8 @@
 ghost use Rattle.std.specs.Prelude.{◌≡◌, Some, None, if◌then◌else◌, MatchOption, slice_get};
 ghost use Rattle.ec_mount_words.specs.declared.route.routes.Route.TheVariants.{To, CrossVolume};
 ghost use Rattle.ec_mount_words.specs.OfRoute.Calls.{paths_of};
-ghost use Rattle.ec_mount_words.specs.OfRoute.Routes.{AreOrdered, IsRoute};
+ghost use Rattle.ec_mount_words.specs.OfRoute.Conditions.{AreOrdered};
+ghost use Rattle.ec_mount_words.specs.OfRoute.Routes.{IsRoute};
 
 use crate::route::table::volume_of;
 use ec_base::Path;
