@@ -1,10 +1,10 @@
 -- What the first bytes of a disk say: its generation, or why it's no half of a mirror.
-use Rattle.std.specs.Prelude.{◌≡◌, ◌⊎◌, ◌<◌, ◌≤◌, ◌+◌, ◌^◌, ℕ, true, false, List, length, Option, Some, None, codes}
+use Rattle.std.specs.Prelude.{◌≡◌, ◌⊎◌, ◌<◌, ◌≤◌, ◌+◌, ◌^◌, ℕ, true, false, List, length, Option, Some, None, codes, nat_le, if◌then◌else◌}
 use Rattle.std.specs.Int.{w64, from_be_bytes}
 use Rattle.ec_disk.specs.Disk.{View, byte, part}
 use Rattle.ec_half.specs.declared.slots.slot.Slot.{Slot}
 use Rattle.ec_half.specs.declared.slots.slot.Slot.TheVariants as slot
-use Rattle.ec_half.specs.OfSlots.Slots.{gate_in, number_in, open_gate, other, header_bytes, AreReady}
+use Rattle.ec_half.specs.OfSlots.Slots.{gate_in, number_in, open_gate, other, generation, header_bytes, AreReady}
 use Rattle.ec_half.specs.declared.header.Found.{Found}
 use Rattle.ec_half.specs.declared.header.Found.TheVariants as found
 use Rattle.ec_half.specs.declared.header.Generation.{Generation}
@@ -66,6 +66,10 @@ MayBeHalf image = (length image ≤ header_bytes) ⊎ ((g : Generation) × IsFou
 abbrev pub IsFoundOf : Found → List ℕ → Type 0
 IsFoundOf found.Empty image = length image ≤ header_bytes
 IsFoundOf (found.Half g) image = (header_bytes < length image) × IsFound image g
+
+-- a disk that is no longer than a header begins with generation 1
+abbrev pub number_of : List ℕ → ℕ
+number_of image = if nat_le (length image) header_bytes then 1 else generation image
 
 -- Each image that a crash may leave has this generation, in its slot, and is ready for the next one.
 abbrev pub AllHave : View → Generation → Type 0

@@ -1,5 +1,5 @@
 // One disk is made as the other one.
-ghost use Rattle.std.specs.Prelude.{◌≡◌, ◌<◌, ◌≤◌, ◌+◌, ◌⊎◌, ℕ, Some, length, true, false};
+ghost use Rattle.std.specs.Prelude.{◌≡◌, ◌<◌, ◌≤◌, ◌+◌, ◌⊎◌, ℕ, Some, IfOk, IsErrOf, length, true, false};
 ghost use Rattle.ec_disk.specs.declared.disk.DiskAnswer.{DiskAnswer};
 ghost use Rattle.ec_disk.specs.declared.disk.DiskAnswer.TheVariants as said;
 ghost use Rattle.ec_half.specs.Contents.{content_behind, HasHeader, Rested, Stays, AllSynced};
@@ -10,7 +10,7 @@ ghost use Rattle.ec_half.specs.declared.copying.Copied.TheVariants as copied;
 
 use crate::half::Half;
 use crate::header::MOST;
-use ec_disk::{CrashDisk, DiskAnswer};
+use ec_disk::{CrashDisk, DiskAnswer, DiskLen};
 
 const PIECE_BYTES: usize = 4_096;
 
@@ -33,6 +33,67 @@ enum Copied {
     Done,
     OfSource(DiskAnswer),
     OfOther(DiskAnswer),
+}
+
+/// Makes the other disk as the source, which gets zeros to its length where that one is longer. Whether the other one hasn't failed.
+pub fn join_from<S: CrashDisk, O: CrashDisk>(
+    source: &mut Half<'_, S>,
+    other: &mut Half<'_, O>,
+    number: u64,
+) -> Result<bool, DiskAnswer>
+    requires source { source.old.most < number }
+    requires other { other.old.most < number }
+    ensures source_from { source.new.from ≡ source.old.from }
+    ensures other_from { other.new.from ≡ other.old.from }
+    ensures source_disk { source.new.disk.ghost_name ≡ source.old.disk.ghost_name }
+    ensures other_disk { other.new.disk.ghost_name ≡ other.old.disk.ghost_name }
+    ensures failed { IsErrOf result said.Failed → (source.new.has_failed ≡ true) ⊎ (other.new.has_failed ≡ true) }
+    ensures alone { IfOk result (λ joined. joined ≡ false → other.new.has_failed ≡ true) }
+    ensures raised { IfOk result (λ joined. joined ≡ true → source.new.generation.number ≡ number) }
+    ensures raised_alone { IfOk result (λ joined. joined ≡ false → source.new.generation.number ≡ number + 1) }
+    ensures small { IfOk result (λ joined. joined ≡ false → number < most_generation) }
+    ensures other_raised { IfOk result (λ joined. joined ≡ true → other.new.generation.number ≡ number) }
+    ensures other_stays { IfOk result (λ joined. joined ≡ false → other.new.generation.number < number) }
+    ensures most { IfOk result (λ joined. joined ≡ true → source.new.most ≤ number) }
+    ensures most_alone { IfOk result (λ joined. source.new.most ≤ number + 1) }
+    ensures other_most { IfOk result (λ joined. other.new.most ≤ number) }
+    ensures content { IfOk result (λ joined. S.tells → O.tells → HasHeader (S.view source.old.disk.now) → (content_behind (S.view source.new.disk.now)).gives ≡ filled (content_behind (S.view source.old.disk.now)).gives (length (content_behind (O.view other.old.disk.now)).gives)) }
+    ensures alike { IfOk result (λ joined. joined ≡ true → S.tells → O.tells → HasHeader (S.view source.old.disk.now) → HasHeader (O.view other.old.disk.now) → (content_behind (O.view other.new.disk.now)).gives ≡ (content_behind (S.view source.new.disk.now)).gives) }
+    ensures source_known { IfOk result (λ joined. (n : ℕ) × (source.new.len ≡ Some n)) }
+    ensures source_synced { IfOk result (λ joined. S.tells → AllSynced (content_behind (S.view source.new.disk.now))) }
+    ensures source_saved { IfOk result (λ joined. S.tells → (content_behind (S.view source.new.disk.now)).synced ≡ (content_behind (S.view source.new.disk.now)).gives) }
+    ensures other_known { IfOk result (λ joined. joined ≡ true → (n : ℕ) × (other.new.len ≡ Some n)) }
+    ensures other_synced { IfOk result (λ joined. joined ≡ true → O.tells → AllSynced (content_behind (O.view other.new.disk.now))) }
+    ensures other_saved { IfOk result (λ joined. joined ≡ true → O.tells → (content_behind (O.view other.new.disk.now)).synced ≡ (content_behind (O.view other.new.disk.now)).gives) }
+{
+    let len = len_of(source)?;
+    let other_len = len_of(other)?;
+    match lengthen(source, len, other_len) {
+        DiskAnswer::Done => {}
+        fault => return Err(fault),
+    }
+    match join(source, other, len.max(other_len), number) {
+        Joined::Both => Ok(true),
+        Joined::SourceAlone => Ok(false),
+        Joined::Fault(fault) => Err(fault),
+    }
+}
+
+fn len_of<D: CrashDisk>(half: &mut Half<'_, D>) -> Result<u64, DiskAnswer>
+    ensures failed { IsErrOf result said.Failed → half.new.has_failed ≡ true }
+    ensures from { half.new.from ≡ half.old.from }
+    ensures same_disk { half.new.disk.ghost_name ≡ half.old.disk.ghost_name }
+    ensures generation { half.new.generation ≡ half.old.generation }
+    ensures most { half.new.most ≡ half.old.most }
+    ensures len { IfOk result (λ len. D.tells → len ≡ length (content_behind (D.view half.old.disk.now)).gives) }
+    ensures rests { D.tells → Rested (content_behind (D.view half.old.disk.now)) (content_behind (D.view half.new.disk.now)) }
+    ensures header { D.tells → HasHeader (D.view half.old.disk.now) → HasHeader (D.view half.new.disk.now) }
+{
+    match half.len() {
+        DiskLen::Len(len) => Ok(len),
+        DiskLen::Failed => Err(DiskAnswer::Failed),
+        DiskLen::Stopped => Err(DiskAnswer::Stopped),
+    }
 }
 
 /// Gives the source the next generation, and then the other disk, which isn't longer, its content of this length and that generation. Where the other

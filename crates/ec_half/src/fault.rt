@@ -33,3 +33,15 @@ pub fn done(answer: DiskAnswer) -> Result<(), MirrorFault>
         DiskAnswer::NoMemory => Err(MirrorFault::NoMemory),
     }
 }
+
+/// Why disks that were good became no mirror.
+pub fn unmade(answer: DiskAnswer) -> MirrorFault
+    ensures good { (k place : ℕ) → result ≡ fault.BadMirror k place → ⊥ }
+    ensures failed { result ≡ fault.DiskFailed → answer ≡ said.Failed }
+{
+    match answer {
+        DiskAnswer::Failed => MirrorFault::DiskFailed,
+        DiskAnswer::Stopped => MirrorFault::DiskStopped,
+        DiskAnswer::Done | DiskAnswer::NoMemory => MirrorFault::NoMemory,
+    }
+}

@@ -15,5 +15,6 @@ mod tally;
 
 pub use ec_half::MirrorFault;
 pub use mirror::Mirror;
+pub use opening::NoMirror;
 pub use over::TwoDisks;
 pub use pinned::{PinnedMirror, Pins};

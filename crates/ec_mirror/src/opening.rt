@@ -1,21 +1,31 @@
 // Two disks become a mirror.
-ghost use Rattle.std.specs.Prelude.{◌≡◌, ◌⊎◌, ◌≤◌, ◌<◌, ◌+◌, ℕ, [], ◌∷◌, None, Some, Err, IsOk, IfOk, length, true, false};
-ghost use Rattle.ec_half.specs.Contents.{content_behind, HasHeader, Rested, AllSynced};
-ghost use Rattle.ec_half.specs.Headers.{IsNoHalf, IsFoundOf, MayBeHalf, most_generation};
+ghost use Rattle.std.specs.Prelude.{◌≡◌, ◌⊎◌, ◌≤◌, ◌<◌, ℕ, [], ◌∷◌, None, Err, IsSome, IsOk, IfOk, IfErr, IsErrOf, true, false};
+ghost use Rattle.ec_base.specs.Outside.{Rose};
+ghost use Rattle.ec_disk.specs.Effects.{Rests};
+ghost use Rattle.ec_disk.specs.declared.disk.DiskAnswer.TheVariants as said;
+ghost use Rattle.ec_half.specs.Contents.{content_behind, HasHeader, AllSynced};
+ghost use Rattle.ec_half.specs.Headers.{IsNoHalf, MayBeHalf, most_generation};
 ghost use Rattle.ec_half.specs.declared.fault.MirrorFault.TheVariants as fault;
 ghost use Rattle.ec_mirror.specs.declared.kept.Kept.TheVariants as left;
-ghost use Rattle.ec_mirror.specs.Joins.{content_of, joined_of, lead, number_of};
+ghost use Rattle.ec_mirror.specs.Joins.{content_of, joined_of, lead};
 ghost use Rattle.ec_mirror.specs.Numbers.{Numbered};
 ghost use Rattle.ec_mirror.specs.Shown.{first_of, second_of, given_by, shown_of, IsWhole, IsSaved};
-ghost use Rattle.ec_half.specs.OfSlots.Contents.{content, filled};
 
 use crate::kept::Kept;
 use crate::mirror::Mirror;
 use crate::pair::{Moment, Pair};
 use crate::parts::Parts;
 use crate::tally::Tally;
-use ec_disk::{CrashDisk, DiskAnswer, DiskLen};
-use ec_half::{Found, Half, Joined, MOST, MirrorFault, NEW, begin, join, lengthen, look_at};
+use ec_disk::{CrashDisk, DiskAnswer};
+use ec_half::{Half, MirrorFault, generations_of, join_from, unmade};
+
+/// Two disks that became no mirror, and why.
+#[derive(Drop)]
+pub struct NoMirror<'a, A: CrashDisk, B: CrashDisk> {
+    pub fault: MirrorFault,
+    pub first: &'a mut A,
+    pub second: &'a mut B,
+}
 
 impl<'a, A: CrashDisk, B: CrashDisk> Mirror<'a, A, B> {
     /// Makes both disks alike, by the one whose generation is greater, the first one in a tie. A disk that is armed and doesn't stop here isn't
@@ -37,85 +47,88 @@ impl<'a, A: CrashDisk, B: CrashDisk> Mirror<'a, A, B> {
         ensures first_disk { IfOk result (λ mirror. mirror.parts.present.pair.first.disk.ghost_name ≡ first.entry.ghost_name) }
         ensures second_disk { IfOk result (λ mirror. mirror.parts.present.pair.second.disk.ghost_name ≡ second.entry.ghost_name) }
     {
-        let found_first = match look_at(first, 1) {
-            Ok(found) => found,
-            Err(fault) => return Err(fault),
-        };
-        let found_second = match look_at(second, 2) {
-            Ok(found) => found,
-            Err(fault) => return Err(fault),
-        };
-        match made(first, found_first, second, found_second) {
+        match Mirror::open_or_give_back(first, second) {
             Ok(mirror) => Ok(mirror),
-            Err(answer) => Err(unmade(answer)),
+            Err(back) => Err(back.fault),
         }
     }
-}
 
-// Why disks that were good became no mirror.
-fn unmade(answer: DiskAnswer) -> MirrorFault
-    ensures { (k place : ℕ) → result ≡ fault.BadMirror k place → ⊥ }
-{
-    match answer {
-        DiskAnswer::Failed => MirrorFault::DiskFailed,
-        DiskAnswer::Stopped => MirrorFault::DiskStopped,
-        DiskAnswer::Done | DiskAnswer::NoMemory => MirrorFault::NoMemory,
+    /// The same, but disks that become no mirror come back. Where one is bad, nothing was written to either. Where one failed, it has counted that.
+    pub fn open_or_give_back(
+        first: &'a mut A,
+        second: &'a mut B,
+    ) -> Result<Mirror<'a, A, B>, NoMirror<'a, A, B>>
+        ensures which { IfErr result (λ back. (k place : ℕ) → back.fault ≡ fault.BadMirror k place → (k ≡ 1) ⊎ (k ≡ 2)) }
+        ensures bad_first { IfErr result (λ back. (place : ℕ) → back.fault ≡ fault.BadMirror 1 place → A.tells → IsNoHalf (A.view first.old).gives place) }
+        ensures bad_second { IfErr result (λ back. (place : ℕ) → back.fault ≡ fault.BadMirror 2 place → B.tells → IsNoHalf (B.view second.old).gives place) }
+        ensures first_is_good { IfErr result (λ back. (place : ℕ) → back.fault ≡ fault.BadMirror 2 place → A.tells → MayBeHalf (A.view first.old).gives) }
+        ensures first_rests { IfErr result (λ back. (k place : ℕ) → back.fault ≡ fault.BadMirror k place → A.tells → Rests (A.view first.old) (A.view back.first.now)) }
+        ensures second_rests { IfErr result (λ back. (k place : ℕ) → back.fault ≡ fault.BadMirror k place → B.tells → Rests (B.view second.old) (B.view back.second.now)) }
+        ensures first_arms { IfErr result (λ back. (k place : ℕ) → back.fault ≡ fault.BadMirror k place → IsSome (A.counts back.first.now).armed → IsSome (A.counts first.old).armed) }
+        ensures second_arms { IfErr result (λ back. (k place : ℕ) → back.fault ≡ fault.BadMirror k place → IsSome (B.counts back.second.now).armed → IsSome (B.counts second.old).armed) }
+        ensures failed { IfErr result (λ back. back.fault ≡ fault.DiskFailed → Rose (A.counts first.old).faults (A.counts back.first.now).faults ⊎ Rose (B.counts second.old).faults (B.counts back.second.now).faults) }
+        ensures first_back { IfErr result (λ back. back.first.ghost_name ≡ first.entry.ghost_name) }
+        ensures second_back { IfErr result (λ back. back.second.ghost_name ≡ second.entry.ghost_name) }
+        ensures both_are_good { IsOk result → (A.tells → MayBeHalf (A.view first.old).gives) × (B.tells → MayBeHalf (B.view second.old).gives) }
+        ensures content { IfOk result (λ mirror. A.tells → B.tells → (lead mirror.parts.present.pair.kept (content_behind (A.view mirror.parts.present.pair.first.disk.now)) (content_behind (B.view mirror.parts.present.pair.second.disk.now))).gives ≡ content_of (A.view first.old).gives (B.view second.old).gives) }
+        ensures alike { IfOk result (λ mirror. A.tells → B.tells → mirror.parts.present.pair.kept ≡ left.Both → (content_behind (A.view mirror.parts.present.pair.first.disk.now)).gives ≡ (content_behind (B.view mirror.parts.present.pair.second.disk.now)).gives) }
+        ensures gives { IfOk result (λ mirror. A.tells → B.tells → (shown_of A.view B.view mirror.parts.present).gives ≡ content_of (A.view first.old).gives (B.view second.old).gives) }
+        ensures synced { IfOk result (λ mirror. A.tells × B.tells → AllSynced (shown_of A.view B.view mirror.parts.present)) }
+        ensures sound { IfOk result (λ mirror. mirror.parts.is_sound ≡ true) }
+        ensures counts { IfOk result (λ mirror. mirror.parts.tally ≡ record { calls = 0; faults = 0; stops = 0; armed = None; failed_alone = false }) }
+        ensures first_from { IfOk result (λ mirror. (before : A) × (mirror.parts.present.pair.first.from.items ≡ before ∷ []) × ((A.counts first.old).faults ≤ (A.counts before).faults)) }
+        ensures second_from { IfOk result (λ mirror. (before : B) × (mirror.parts.present.pair.second.from.items ≡ before ∷ []) × ((B.counts second.old).faults ≤ (B.counts before).faults)) }
+        ensures first_disk { IfOk result (λ mirror. mirror.parts.present.pair.first.disk.ghost_name ≡ first.entry.ghost_name) }
+        ensures second_disk { IfOk result (λ mirror. mirror.parts.present.pair.second.disk.ghost_name ≡ second.entry.ghost_name) }
+    {
+        let generations = match generations_of(first, second) {
+            Ok(generations) => generations,
+            Err(fault) => {
+                return Err(NoMirror {
+                    fault,
+                    first,
+                    second,
+                });
+            }
+        };
+        let first = Half::new(first, generations.0);
+        let second = Half::new(second, generations.1);
+        let mut pair = Pair {
+            first,
+            second,
+            kept: Kept::Both,
+        };
+        let number = generations.0.number.max(generations.1.number) + 1;
+        let number = match joined(&mut pair, number) {
+            Ok(number) => number,
+            Err(answer) => return Err(parted(pair, unmade(answer))),
+        };
+        pair.first.disarm();
+        pair.second.disarm();
+        Ok(Mirror::new(opened(pair, number)))
     }
 }
 
-// Both disks were looked at.
-fn made<'a, A: CrashDisk, B: CrashDisk>(
-    first: &'a mut A,
-    found_first: Found,
-    second: &'a mut B,
-    found_second: Found,
-) -> Result<Mirror<'a, A, B>, DiskAnswer>
-    requires first { A.tells → IsFoundOf found_first (A.view first.old).gives }
-    requires second { B.tells → IsFoundOf found_second (B.view second.old).gives }
-    ensures content { IfOk result (λ mirror. A.tells → B.tells → IsFoundOf found_first (A.view first.old).gives → IsFoundOf found_second (B.view second.old).gives → (lead mirror.parts.present.pair.kept (content_behind (A.view mirror.parts.present.pair.first.disk.now)) (content_behind (B.view mirror.parts.present.pair.second.disk.now))).gives ≡ content_of (A.view first.old).gives (B.view second.old).gives) }
-    ensures alike { IfOk result (λ mirror. A.tells → B.tells → IsFoundOf found_first (A.view first.old).gives → IsFoundOf found_second (B.view second.old).gives → mirror.parts.present.pair.kept ≡ left.Both → (content_behind (A.view mirror.parts.present.pair.first.disk.now)).gives ≡ (content_behind (B.view mirror.parts.present.pair.second.disk.now)).gives) }
-    ensures shows { IfOk result (λ mirror. (shown_of A.view B.view mirror.parts.present).gives ≡ given_by A.view B.view mirror.parts.present.pair) }
-    ensures synced { IfOk result (λ mirror. A.tells × B.tells → AllSynced (shown_of A.view B.view mirror.parts.present)) }
-    ensures sound { IfOk result (λ mirror. mirror.parts.is_sound ≡ true) }
-    ensures counts { IfOk result (λ mirror. mirror.parts.tally ≡ record { calls = 0; faults = 0; stops = 0; armed = None; failed_alone = false }) }
-    ensures first_from { IfOk result (λ mirror. (before : A) × (mirror.parts.present.pair.first.from.items ≡ before ∷ []) × ((A.counts first.old).faults ≤ (A.counts before).faults)) }
-    ensures second_from { IfOk result (λ mirror. (before : B) × (mirror.parts.present.pair.second.from.items ≡ before ∷ []) × ((B.counts second.old).faults ≤ (B.counts before).faults)) }
-    ensures first_disk { IfOk result (λ mirror. mirror.parts.present.pair.first.disk.ghost_name ≡ first.entry.ghost_name) }
-    ensures second_disk { IfOk result (λ mirror. mirror.parts.present.pair.second.disk.ghost_name ≡ second.entry.ghost_name) }
+// Two disks that weren't joined, and why.
+fn parted<'a, A: CrashDisk, B: CrashDisk>(
+    pair: Pair<'a, A, B>,
+    fault: MirrorFault,
+) -> NoMirror<'a, A, B>
+    ensures fault { result.fault ≡ fault }
+    ensures first { (result.first.ghost_name ≡ pair.entry.first.disk.ghost_name) × (result.first.now ≡ pair.entry.first.disk.now) }
+    ensures second { (result.second.ghost_name ≡ pair.entry.second.disk.ghost_name) × (result.second.now ≡ pair.entry.second.disk.now) }
 {
-    let first = begun(first, found_first)?;
-    let second = begun(second, found_second)?;
-    let number = first.generation.number.max(second.generation.number);
-    if number >= MOST {
-        return Err(DiskAnswer::NoMemory);
-    }
-    let mut pair = Pair {
+    let Pair {
         first,
         second,
-        kept: Kept::Both,
-    };
-    let number = joined(&mut pair, number + 1)?;
-    pair.first.disarm();
-    pair.second.disarm();
-    Ok(Mirror::new(opened(pair, number)))
-}
-
-// A disk with its generation; an empty one gets a header.
-fn begun<'a, D: CrashDisk>(disk: &'a mut D, found: Found) -> Result<Half<'a, D>, DiskAnswer>
-    ensures from { IfOk result (λ half. half.from.items ≡ half.disk.now ∷ []) }
-    ensures same_disk { IfOk result (λ half. half.disk.ghost_name ≡ disk.entry.ghost_name) }
-    ensures later { IfOk result (λ half. (D.counts disk.old).faults ≤ (D.counts half.disk.now).faults) }
-    ensures most { IfOk result (λ half. half.most ≡ half.generation.number) }
-    ensures number { IfOk result (λ half. D.tells → IsFoundOf found (D.view disk.old).gives → half.generation.number ≡ number_of (D.view disk.old).gives) }
-    ensures header { IfOk result (λ half. D.tells → IsFoundOf found (D.view disk.old).gives → HasHeader (D.view half.disk.now)) }
-    ensures content { IfOk result (λ half. D.tells → IsFoundOf found (D.view disk.old).gives → content (D.view half.disk.now).gives ≡ content (D.view disk.old).gives) }
-{
-    match found {
-        Found::Half(generation) => Ok(Half::new(disk, generation)),
-        Found::Empty => match begin(disk) {
-            DiskAnswer::Done => Ok(Half::new(disk, NEW)),
-            fault => Err(fault),
-        },
+        kept: _,
+    } = pair;
+    let first = first.disk;
+    let second = second.disk;
+    NoMirror {
+        fault,
+        first,
+        second,
     }
 }
 
@@ -134,6 +147,7 @@ fn joined<'a, A: CrashDisk, B: CrashDisk>(
     ensures second_from { pair.new.second.from ≡ pair.old.second.from }
     ensures first_disk { pair.new.first.disk.ghost_name ≡ pair.old.first.disk.ghost_name }
     ensures second_disk { pair.new.second.disk.ghost_name ≡ pair.old.second.disk.ghost_name }
+    ensures failed { IsErrOf result said.Failed → (pair.new.first.has_failed ≡ true) ⊎ (pair.new.second.has_failed ≡ true) }
     ensures numbered { IfOk result (λ made. Numbered pair.new.kept pair.new.first.generation.number pair.new.first.most pair.new.second.generation.number pair.new.second.most made) }
     ensures small { IfOk result (λ made. made ≤ most_generation) }
     ensures whole { pair.new.kept ≡ left.Leaving → ⊥ }
@@ -161,65 +175,6 @@ fn kept_by(joined: bool, alone: Kept) -> Kept
     ensures alone { joined ≡ false → result ≡ alone }
 {
     if joined { Kept::Both } else { alone }
-}
-
-// Makes the other disk as the source, which gets zeros to its length where that one is longer. Whether the other one hasn't failed.
-fn join_from<S: CrashDisk, O: CrashDisk>(
-    source: &mut Half<'_, S>,
-    other: &mut Half<'_, O>,
-    number: u64,
-) -> Result<bool, DiskAnswer>
-    requires source { source.old.most < number }
-    requires other { other.old.most < number }
-    ensures source_from { source.new.from ≡ source.old.from }
-    ensures other_from { other.new.from ≡ other.old.from }
-    ensures source_disk { source.new.disk.ghost_name ≡ source.old.disk.ghost_name }
-    ensures other_disk { other.new.disk.ghost_name ≡ other.old.disk.ghost_name }
-    ensures alone { IfOk result (λ joined. joined ≡ false → other.new.has_failed ≡ true) }
-    ensures raised { IfOk result (λ joined. joined ≡ true → source.new.generation.number ≡ number) }
-    ensures raised_alone { IfOk result (λ joined. joined ≡ false → source.new.generation.number ≡ number + 1) }
-    ensures small { IfOk result (λ joined. joined ≡ false → number < most_generation) }
-    ensures other_raised { IfOk result (λ joined. joined ≡ true → other.new.generation.number ≡ number) }
-    ensures other_stays { IfOk result (λ joined. joined ≡ false → other.new.generation.number < number) }
-    ensures most { IfOk result (λ joined. joined ≡ true → source.new.most ≤ number) }
-    ensures most_alone { IfOk result (λ joined. source.new.most ≤ number + 1) }
-    ensures other_most { IfOk result (λ joined. other.new.most ≤ number) }
-    ensures content { IfOk result (λ joined. S.tells → O.tells → HasHeader (S.view source.old.disk.now) → (content_behind (S.view source.new.disk.now)).gives ≡ filled (content_behind (S.view source.old.disk.now)).gives (length (content_behind (O.view other.old.disk.now)).gives)) }
-    ensures alike { IfOk result (λ joined. joined ≡ true → S.tells → O.tells → HasHeader (S.view source.old.disk.now) → HasHeader (O.view other.old.disk.now) → (content_behind (O.view other.new.disk.now)).gives ≡ (content_behind (S.view source.new.disk.now)).gives) }
-    ensures source_known { IfOk result (λ joined. (n : ℕ) × (source.new.len ≡ Some n)) }
-    ensures source_synced { IfOk result (λ joined. S.tells → AllSynced (content_behind (S.view source.new.disk.now))) }
-    ensures source_saved { IfOk result (λ joined. S.tells → (content_behind (S.view source.new.disk.now)).synced ≡ (content_behind (S.view source.new.disk.now)).gives) }
-    ensures other_known { IfOk result (λ joined. joined ≡ true → (n : ℕ) × (other.new.len ≡ Some n)) }
-    ensures other_synced { IfOk result (λ joined. joined ≡ true → O.tells → AllSynced (content_behind (O.view other.new.disk.now))) }
-    ensures other_saved { IfOk result (λ joined. joined ≡ true → O.tells → (content_behind (O.view other.new.disk.now)).synced ≡ (content_behind (O.view other.new.disk.now)).gives) }
-{
-    let len = len_of(source)?;
-    let other_len = len_of(other)?;
-    match lengthen(source, len, other_len) {
-        DiskAnswer::Done => {}
-        fault => return Err(fault),
-    }
-    match join(source, other, len.max(other_len), number) {
-        Joined::Both => Ok(true),
-        Joined::SourceAlone => Ok(false),
-        Joined::Fault(fault) => Err(fault),
-    }
-}
-
-fn len_of<D: CrashDisk>(half: &mut Half<'_, D>) -> Result<u64, DiskAnswer>
-    ensures from { half.new.from ≡ half.old.from }
-    ensures same_disk { half.new.disk.ghost_name ≡ half.old.disk.ghost_name }
-    ensures generation { half.new.generation ≡ half.old.generation }
-    ensures most { half.new.most ≡ half.old.most }
-    ensures len { IfOk result (λ len. D.tells → len ≡ length (content_behind (D.view half.old.disk.now)).gives) }
-    ensures rests { D.tells → Rested (content_behind (D.view half.old.disk.now)) (content_behind (D.view half.new.disk.now)) }
-    ensures header { D.tells → HasHeader (D.view half.old.disk.now) → HasHeader (D.view half.new.disk.now) }
-{
-    match half.len() {
-        DiskLen::Len(len) => Ok(len),
-        DiskLen::Failed => Err(DiskAnswer::Failed),
-        DiskLen::Stopped => Err(DiskAnswer::Stopped),
-    }
 }
 
 fn opened<'a, A: CrashDisk, B: CrashDisk>(pair: Pair<'a, A, B>, number: u64) -> Parts<'a, A, B>

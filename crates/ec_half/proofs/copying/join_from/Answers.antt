@@ -1,7 +1,7 @@
 use Rattle.std.proofs.Common.{inl, inr, ◌∙◌, sym}
 use Rattle.ec_half.specs.Contents.{content_behind}
-use Rattle.ec_mirror.proofs.Joins.{filled-joined, known-length, length-joined, fits-joined}
-use Rattle.ec_mirror.proofs.opening.join_from.Goals as goal
+use Rattle.ec_half.proofs.Joins.{filled-joined, known-length, length-joined, fits-joined}
+use Rattle.ec_half.proofs.copying.join_from.Goals as goal
 
 pub returns-in-Both-clause-content : goal.returns-in-Both-clause-content
 returns-in-Both-clause-content g c source other long =
