@@ -1,6 +1,7 @@
 -- What the program does over two disks.
-use Rattle.std.proofs.Common.{◌≡◌, ◌⊎◌, ◌∙◌, arith, ℕ, List, [], ◌∷◌, Option, inl, inr, refl, sym, subst, ap, ⊎_elim}
-use Rattle.std.specs.Prelude.{◌≤◌, Bool, true, false, Result, Ok, Err, IfOk, MatchResult}
+use Rattle.std.proofs.Common.{◌≡◌, ◌⊎◌, ◌∙◌, arith, ℕ, List, [], ◌∷◌, Option, None, Some, inl, inr, refl, sym, subst, ap, ⊎_elim}
+use Rattle.std.specs.Prelude.{◌≤◌, Bool, true, false, Result, Ok, Err, IfOk, IsSome, MatchResult}
+use Rattle.ec_base.proofs.Equalities.{apart-two}
 use Rattle.ec_base.proofs.OutsideLemmas.{rose_later}
 use Rattle.ec_base.specs.Outside.{Rose}
 use Rattle.ec_disk.specs.Disk.{View, Counts}
@@ -25,7 +26,7 @@ use Rattle.ec_echo.specs.Echo.{Links, leasing, serving}
 use Rattle.ec_echo.specs.Serving.{Served, TellsEnding}
 use Rattle.ec_echo.specs.Soak.{Told, TellsCounts, summary_text, last_text}
 use Rattle.ec_echo.specs.Statuses.{code, of_drill, of_leases}
-use Rattle.ec_echo.specs.Mirroring.{Kind, Mirrored, Opened, Promised, RanMirrored, TellsFault, UsesDisk, UsesNone, mirror_text}
+use Rattle.ec_echo.specs.Mirroring.{Kind, Mirrored, Opened, Promised, RanMirrored, Refused, TellsFault, UsesDisk, UsesNone, mirror_text}
 use Rattle.ec_echo.specs.OfNamed.Forms.{DoesServe, outside}
 use Rattle.ec_echo.specs.OfNamed.Seen.{store}
 use Rattle.ec_echo.specs.OfNamed.Soaks.{DoesSoak, SoaksOnce, made, transcribed}
@@ -153,6 +154,31 @@ fault-not-usage (fault.BadMirror which place) st sink t e = bad_not (mirror_text
 fault-not-usage fault.DiskFailed st sink t e = absurd (grind (arith, sym (ap code t.0) ∙ e))
 fault-not-usage fault.DiskStopped st sink t e = absurd (grind (arith, sym (ap code t.0) ∙ e))
 fault-not-usage fault.NoMemory st sink t e = absurd (grind (arith, sym (ap code t.0) ∙ e))
+
+-- one that has the status of a disk's failure is just that
+bad_not_six : (text : List ℕ) (st : Status) (held now : Option (List ℕ)) (before later : ℕ) → TellsText text status.BadDisk st held now before later → code st ≡ 6 → ⊥
+bad_not_six text st held now before later (inl (inl w)) e = absurd (grind (arith, sym (ap code w.0) ∙ e))
+bad_not_six text st held now before later (inl (inr (inl w))) e = absurd (grind (arith, sym (ap code w.0) ∙ e))
+bad_not_six text st held now before later (inl (inr (inr w))) e = absurd (grind (arith, sym (ap code w.0) ∙ e))
+bad_not_six text st held now before later (inr w) e = absurd (grind (arith, sym (ap code w.0) ∙ e))
+
+pub fault-of-six : (why : MirrorFault) (st : Status) (sink : Stream) → TellsFault why st sink → code st ≡ 6 → why ≡ fault.DiskFailed
+fault-of-six (fault.BadMirror which place) st sink t e = absurd (bad_not_six (mirror_text which place) st sink.bytes sink.bytes_after sink.faults sink.faults_after t e)
+fault-of-six fault.DiskFailed st sink t e = refl
+fault-of-six fault.DiskStopped st sink t e = absurd (grind (arith, sym (ap code t.0) ∙ e))
+fault-of-six fault.NoMemory st sink t e = absurd (grind (arith, sym (ap code t.0) ∙ e))
+
+-- a disk that isn't armed isn't armed by a call that arms none
+pub unarmed-still : (before after : Option ℕ) → before ≡ None → (IsSome after → IsSome before) → after ≡ None
+unarmed-still before None none arms = refl
+unarmed-still before (Some n) none arms = absurd (apart-two (subst IsSome none (arms refl)))
+
+-- the same refusal, of equal disks
+pub refused-moved : {A B : Type 0} (a : Kind A) (b : Kind B) (result : ℕ) (source sink : Stream) (n : Links) (first first_back first_after : A) (second second_back second_after : B)
+    → Refused a b result source sink n first first_back second second_back → first_back ≡ first_after → second_back ≡ second_after → Refused a b result source sink n first first_after second second_after
+refused-moved {A} {B} a b result source sink n first first_back first_after second second_back second_after refused one two =
+    subst (λ (x : A). Refused a b result source sink n first x second second_after) one
+    (subst (λ (y : B). Refused a b result source sink n first first_back second y) two refused)
 
 -- a count that rose from 0
 pub rose-some : (before later : ℕ) → before ≡ 0 → Rose before later → 1 ≤ later

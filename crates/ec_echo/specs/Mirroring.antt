@@ -3,7 +3,7 @@ use Rattle.std.specs.Prelude.{◌≡◌, ◌⊎◌, ◌≤◌, ℕ, List, [], �
 use Rattle.std.specs.Fmt.{decimal}
 use Rattle.ec_base.specs.Outside.{Rose}
 use Rattle.ec_disk.specs.Disk.{View, Counts}
-use Rattle.ec_disk.specs.Effects.{IsSynced}
+use Rattle.ec_disk.specs.Effects.{IsSynced, Rests}
 use Rattle.ec_drill.specs.Seen.{Stream, Store}
 use Rattle.ec_half.specs.Headers.{IsNoHalf, MayBeHalf}
 use Rattle.ec_half.specs.declared.fault.MirrorFault.{MirrorFault}
@@ -106,8 +106,8 @@ TellsFault fault.DiskFailed result sink = TellsNothing status.DiskFault result s
 TellsFault fault.DiskStopped result sink = TellsNothing status.NoMemory result sink.bytes sink.bytes_after
 TellsFault fault.NoMemory result sink = TellsNothing status.NoMemory result sink.bytes sink.bytes_after
 
--- Two disks became no mirror, and nothing else was touched. The first one is tested first.
-pub record Refused {A B : Type 0} (a : Kind A) (b : Kind B) (result : ℕ) (source sink : Stream) (n : Links) (first : A) (second : B) : Type 0 where
+-- Two disks became no mirror, and nothing else was touched. The first one is tested first. Where one is bad, nothing was written to either, and neither is armed. The program ends for a disk's failure only where the first or the second one has failed.
+pub record Refused {A B : Type 0} (a : Kind A) (b : Kind B) (result : ℕ) (source sink : Stream) (n : Links) (first first_after : A) (second second_after : B) : Type 0 where
   pub why : MirrorFault
   pub st : Status
   pub result_is : result ≡ code st
@@ -116,6 +116,11 @@ pub record Refused {A B : Type 0} (a : Kind A) (b : Kind B) (result : ℕ) (sour
   pub bad_first : (place : ℕ) → why ≡ fault.BadMirror 1 place → a.tells → IsNoHalf (a.view first).gives place
   pub bad_second : (place : ℕ) → why ≡ fault.BadMirror 2 place → b.tells → IsNoHalf (b.view second).gives place
   pub first_is_good : (place : ℕ) → why ≡ fault.BadMirror 2 place → a.tells → MayBeHalf (a.view first).gives
+  pub first_rests : (k place : ℕ) → why ≡ fault.BadMirror k place → a.tells → Rests (a.view first) (a.view first_after)
+  pub second_rests : (k place : ℕ) → why ≡ fault.BadMirror k place → b.tells → Rests (b.view second) (b.view second_after)
+  pub first_unarmed : (k place : ℕ) → why ≡ fault.BadMirror k place → (a.counts first_after).armed ≡ None
+  pub second_unarmed : (k place : ℕ) → why ≡ fault.BadMirror k place → (b.counts second_after).armed ≡ None
+  pub disk_failed : result ≡ 6 → Rose (a.counts first).faults (a.counts first_after).faults ⊎ Rose (b.counts second).faults (b.counts second_after).faults
   pub source_rests : source.bytes_after ≡ source.bytes
   pub links_rest : n.later ≡ n.before
 

@@ -17,7 +17,7 @@ use crate::writing::write_made;
 use ec_base::{NoMemory, Sink, Source};
 use ec_disk::{CrashDisk, Disk};
 use ec_link::{Around, Net, Spawner};
-use ec_mirror::{Mirror, MirrorFault, PinnedMirror, Pins, TwoDisks};
+use ec_mirror::{Mirror, MirrorFault, NoMirror, PinnedMirror, Pins, TwoDisks};
 use itoa::Buffer;
 use std::alloc::Global;
 use std::io::Eprint;
@@ -51,16 +51,25 @@ pub fn mirror_main<
     // Words that use no disk.
     ensures diskless { UsesNone (map string_bytes words.now) → Promised boot (map string_bytes words.now) result (stream S.left S.faults source.old source.new) (stream K.held K.faults sink.old sink.new) (store A.tells A.view A.counts first.old first.new) (links N.faults N.bad N.ended faults_of net.old net.new spawner.old spawner.new) }
     ensures second_rests { UsesNone (map string_bytes words.now) → second.new ≡ second.old }
-    // All others: the two disks are no mirror, or all that's promised over one disk is so over the mirror, and it's told how the disks stand to it.
-    ensures mirrored { UsesDisk (map string_bytes words.now) → Refused (record { tells = A.tells; view = A.view; counts = A.counts }) (record { tells = B.tells; view = B.view; counts = B.counts }) result (stream S.left S.faults source.old source.new) (stream K.held K.faults sink.old sink.new) (links N.faults N.bad N.ended faults_of net.old net.new spawner.old spawner.new) first.old second.old
+    // All others: the two disks are no mirror, and it's told why and what becomes of them, or all that's promised over one disk is so over the mirror, and it's told how the disks stand to it.
+    ensures mirrored { UsesDisk (map string_bytes words.now) → Refused (record { tells = A.tells; view = A.view; counts = A.counts }) (record { tells = B.tells; view = B.view; counts = B.counts }) result (stream S.left S.faults source.old source.new) (stream K.held K.faults sink.old sink.new) (links N.faults N.bad N.ended faults_of net.old net.new spawner.old spawner.new) first.old first.new second.old second.new
         ⊎ Mirrored (record { tells = A.tells; view = A.view; counts = A.counts }) (record { tells = B.tells; view = B.view; counts = B.counts }) (record { tells = ⟦<Mirror<'static, A, B> as Disk>⟧.tells; view = ⟦<Mirror<'static, A, B> as Disk>⟧.view; counts = ⟦<Mirror<'static, A, B> as Disk>⟧.counts }) boot (map string_bytes words.now) result (stream S.left S.faults source.old source.new) (stream K.held K.faults sink.old sink.new) (links N.faults N.bad N.ended faults_of net.old net.new spawner.old spawner.new) first.old first.new second.old second.new }
 {
     if !use_disk(words) {
         return echo_main(rt, words, source, sink, first, net, spawner, boot);
     }
-    let mirror = match Mirror::open(first, second) {
+    let mirror = match Mirror::open_or_give_back(first, second) {
         Ok(mirror) => mirror,
-        Err(fault) => return refuse(rt.alloc(), sink, fault).code(),
+        Err(back) => {
+            let NoMirror {
+                fault,
+                first,
+                second,
+            } = back;
+            let _ = first;
+            let _ = second;
+            return refuse(rt.alloc(), sink, fault).code();
+        }
     };
     let start = Start { rt, words, boot };
     let Ended {

@@ -1,5 +1,4 @@
 use Rattle.std.proofs.Common.{◌≡◌, ◌∙◌, ℕ, List, refl, sym, subst, ap, arith, inl, inr, map, rules, length}
-use Rattle.std.specs.Prelude.{Err}
 use Rattle.std.specs.String.{string_bytes}
 use Rattle.ec_base.proofs.Equalities.{moved}
 use Rattle.ec_link.specs.Spawns.{faults_of}
@@ -8,7 +7,7 @@ use Rattle.ec_mirror.specs.Tally.{counts_of}
 use Rattle.ec_echo.specs.Mirroring.{Mirrored}
 use Rattle.ec_echo.specs.OfNamed.Forms.{links}
 use Rattle.ec_echo.specs.OfNamed.Seen.{stream}
-use Rattle.ec_echo.proofs.Mirrors.{before-of, fault-not-usage, mirrored-so, uses-some}
+use Rattle.ec_echo.proofs.Mirrors.{before-of, fault-not-usage, fault-of-six, mirrored-so, refused-moved, unarmed-still, uses-some}
 use Rattle.ec_echo.proofs.mirroring.mirror_main.Goals as goal
 
 pub returns-then-not-use_disk-clause-diskless : goal.returns-then-not-use_disk-clause-diskless
@@ -62,18 +61,30 @@ pub echo_mirrored-status-requires-clause-unarmed : goal.echo_mirrored-status-req
 echo_mirrored-status-requires-clause-unarmed g c κs within = ap (λ t. t.armed) c.in-Ok.ensures.counts
 
 pub returns-in-Err-clause-mirrored : goal.returns-in-Err-clause-mirrored
-returns-in-Err-clause-mirrored g c uses = inl record {
-  why = c.in-Err.fault;
-  st = c.refuse.result;
-  result_is = c.code.ensures;
-  told = c.refuse.ensures.told;
-  which = λ k place is. c.in-Err.ensures.which k place (ap Err is);
-  bad_first = λ place is. c.in-Err.ensures.bad_first place (ap Err is);
-  bad_second = λ place is. c.in-Err.ensures.bad_second place (ap Err is);
-  first_is_good = λ place is. c.in-Err.ensures.first_is_good place (ap Err is);
-  source_rests = refl;
-  links_rest = refl;
-}
+returns-in-Err-clause-mirrored g c uses =
+    let source = stream g.S.Source.left g.S.Source.faults c.args.source.now c.args.source.now in
+    let sink = stream g.K.Sink.held g.K.Sink.faults c.args.sink.now c.refuse.new.sink in
+    let net = links g.N.Net.faults g.N.Net.bad g.N.Net.ended faults_of c.args.net.now c.args.net.now c.args.spawner.now c.args.spawner.now in
+    let back = c.in-Err.ensures in
+    inl (refused-moved (record { tells = g.A.Disk.tells; view = g.A.Disk.view; counts = g.A.Disk.counts }) (record { tells = g.B.Disk.tells; view = g.B.Disk.view; counts = g.B.Disk.counts }) c.code.result source sink net c.args.first.now c.in-Err.back.first.now _ c.args.second.now c.in-Err.back.second.now _
+    (record {
+      why = c.in-Err.back.fault;
+      st = c.refuse.result;
+      result_is = c.code.ensures;
+      told = c.refuse.ensures.told;
+      which = back.which;
+      bad_first = back.bad_first;
+      bad_second = back.bad_second;
+      first_is_good = back.first_is_good;
+      first_rests = back.first_rests;
+      second_rests = back.second_rests;
+      first_unarmed = λ k place is. unarmed-still (g.A.Disk.counts c.args.first.now).armed (g.A.Disk.counts c.in-Err.back.first.now).armed c.requires.first (back.first_arms k place is);
+      second_unarmed = λ k place is. unarmed-still (g.B.Disk.counts c.args.second.now).armed (g.B.Disk.counts c.in-Err.back.second.now).armed c.requires.second (back.second_arms k place is);
+      disk_failed = λ is. back.failed (fault-of-six c.in-Err.back.fault c.refuse.result sink c.refuse.ensures.told (sym c.code.ensures ∙ is));
+      source_rests = refl;
+      links_rest = refl;
+    })
+    (sym (c.first-1.given.1 (sym back.first_back))) (sym (c.second-1.given.1 (sym back.second_back))))
 
 pub returns-clause-mirrored : goal.returns-clause-mirrored
 returns-clause-mirrored g c uses =
