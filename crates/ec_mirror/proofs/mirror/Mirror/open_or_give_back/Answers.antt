@@ -38,11 +38,11 @@ returns-in-Err-joined-clause-second_arms g c k place is some = absurd (c.unmade.
 pub returns-in-Err-joined-clause-failed : goal.returns-in-Err-joined-clause-failed
 returns-in-Err-joined-clause-failed g c is =
     let first = λ (failed : c.joined.new.pair.first.has_failed ≡ true).
-            subst (λ d. Rose (g.A.Disk.counts c.args.first.now).faults (g.A.Disk.counts d).faults) (sym c.parted.ensures.first.1)
-            (rose_later _ _ _ c.generations_of.ensures.first_later (c.joined.new.pair.first.failed failed c.generations_of.new.first (ap (λ f. f.items) c.joined.ensures.first_from ∙ c.new-first.ensures.from))) in
+    subst (λ d. Rose (g.A.Disk.counts c.args.first.now).faults (g.A.Disk.counts d).faults) (sym c.parted.ensures.first.1)
+    (rose_later _ _ _ c.generations_of.ensures.first_later (c.joined.new.pair.first.failed failed c.generations_of.new.first (ap (λ f. f.items) c.joined.ensures.first_from ∙ c.new-first.ensures.from))) in
     let second = λ (failed : c.joined.new.pair.second.has_failed ≡ true).
-            subst (λ d. Rose (g.B.Disk.counts c.args.second.now).faults (g.B.Disk.counts d).faults) (sym c.parted.ensures.second.1)
-            (rose_later _ _ _ c.generations_of.ensures.second_later (c.joined.new.pair.second.failed failed c.generations_of.new.second (ap (λ f. f.items) c.joined.ensures.second_from ∙ c.new-second.ensures.from))) in
+    subst (λ d. Rose (g.B.Disk.counts c.args.second.now).faults (g.B.Disk.counts d).faults) (sym c.parted.ensures.second.1)
+    (rose_later _ _ _ c.generations_of.ensures.second_later (c.joined.new.pair.second.failed failed c.generations_of.new.second (ap (λ f. f.items) c.joined.ensures.second_from ∙ c.new-second.ensures.from))) in
     ⊎_elim (λ failed. inl (first failed)) (λ failed. inr (second failed)) (c.in-Err-joined.ensures.failed (ap Err (c.unmade.ensures.failed (sym c.parted.ensures.fault ∙ is))))
 
 pub returns-in-Err-joined-clause-first_back : goal.returns-in-Err-joined-clause-first_back
