@@ -1,5 +1,6 @@
 // One link of a server, which is served in a thread of its own.
 ghost use Rattle.std.specs.Prelude.{◌≡◌, ◌≤◌, IfSome, IfNone};
+ghost use Rattle.ec_link.specs.LinkAnswers.{IsShut};
 ghost use Rattle.ec_lock.specs.PassViews.{Same, front};
 ghost use Rattle.ec_servernode.specs.TurnSteps.{IsServerPass};
 ghost use Rattle.ec_attend.specs.Links.{WasReplaced};
@@ -49,7 +50,7 @@ pub fn serve_connection<K: Keeper + Drop, L: Link + Drop, D: Bell + Drop, R: Aro
     key: usize,
 ) -> Ended<K, L>
     requires { IsServerPass K.kept connection.server.now.lock connection.pass × BeginsSo L.given L.got connection.pass.pass connection.link }
-    ensures { IsServerPass K.kept connection.entry.server.now.lock result.pass × EndsSo L.faults L.closes L.given result.is_over result.pass.pass result.link × GoneSo L.given L.got result.is_over result.pass.pass result.link }
+    ensures { IsServerPass K.kept connection.entry.server.now.lock result.pass × EndsSo L.faults L.closes L.given result.is_over result.pass.pass result.link × GoneSo L.given L.got result.is_over result.pass.pass result.link × IsShut (L.shut result.link) }
 {
     let Connection {
         server,

@@ -1,5 +1,5 @@
 -- What a link's answers to one send or receive come to.
-use Rattle.std.specs.Prelude.{◌≡◌, ℕ, List, [], ◌∷◌, ◌++◌}
+use Rattle.std.specs.Prelude.{◌≡◌, ℕ, Bool, true, List, [], ◌∷◌, ◌++◌, Option, Some, None}
 use Rattle.ec_streams.specs.OfFrame.Frames.{Begins, BeginsLong, BeginsNone}
 use Rattle.ec_link.specs.declared.link.Sent.{Sent}
 use Rattle.ec_link.specs.declared.link.Sent.TheVariants as sent
@@ -52,3 +52,8 @@ Reads old new (got.Long n) = (more : List ℕ) × (new ≡ old ++ more) × Begin
 Reads old new got.Closed = (more : List ℕ) × (new ≡ old ++ more) × BeginsNone new
 Reads old new got.Failed = (more : List ℕ) × (new ≡ old ++ more)
 Reads old new got.NoMemory = (more : List ℕ) × (new ≡ old ++ more)
+
+-- it was ended for the other end, where it is told
+abbrev pub IsShut : Option Bool → Type 0
+IsShut None = Unit {0}
+IsShut (Some b) = b ≡ true

@@ -1,5 +1,5 @@
 -- A link in memory.
-use Rattle.std.specs.Prelude.{◌≡◌, ℕ, Bool, List, [], nat_eq}
+use Rattle.std.specs.Prelude.{◌≡◌, ℕ, Bool, List, [], nat_eq, is_none}
 use Rattle.std.specs.List.{list_any}
 use Rattle.ec_base.specs.Outside.{one_more}
 use Rattle.ec_link.specs.declared.memory.MemLink.{MemLink}
@@ -9,6 +9,10 @@ use Rattle.ec_link.specs.HappeningBodies.{closes_in, given_in, got_in}
 -- the next send or receive is listed as one that fails
 abbrev pub is_due : MemLink → Bool
 is_due link = list_any (λ n. nat_eq n (one_more link.calls)) link.fails.items
+
+-- it sends no more
+abbrev pub is_shut : MemLink → Bool
+is_shut link = is_none link.line.to
 
 -- nothing has happened at this end, and it holds no bytes
 pub record IsNewLink (link : MemLink) : Type 0 where

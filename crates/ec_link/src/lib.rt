@@ -2,6 +2,7 @@
 #![tactic(auto)]
 
 mod around;
+mod asked;
 mod bell;
 mod happenings;
 mod leaving;

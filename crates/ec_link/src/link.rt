@@ -1,9 +1,9 @@
 // One end of a link, with its counts and, where it tells them, the bodies that it gave and got.
-ghost use Rattle.std.specs.Prelude.{◌≡◌, ℕ, ◌+◌, ◌≤◌, Bool, List, Option};
+ghost use Rattle.std.specs.Prelude.{◌≡◌, ℕ, ◌+◌, ◌≤◌, Bool, true, List, Option, Some};
 ghost use Rattle.ec_streams.specs.OfFrame.Frames.{IsBody};
 ghost use Rattle.ec_link.specs.declared.link.Sent.TheVariants as sent;
 ghost use Rattle.ec_link.specs.Links.{Heard, added};
-ghost use Rattle.ec_link.specs.LinkAnswers.{failed, fault_of, close_of, heard, carried, Reads};
+ghost use Rattle.ec_link.specs.LinkAnswers.{failed, fault_of, close_of, heard, carried, Reads, IsShut};
 ghost use Rattle.ec_link.specs.NetAnswers.{faulted};
 
 use crate::around::Around;
@@ -57,6 +57,9 @@ pub trait Link {
     // Whether it keeps back nothing of what it got.
     ghost clear: { Self → Bool };
 
+    // Whether it was ended for the other end, where it is told.
+    ghost shut: { Self → Option Bool };
+
     /// Hands a body of at most 1,048,576 bytes to the other end.
     fn send<R: Wait + Clock>(&mut self, rt: &R, body: &[u8]) -> Sent
         ensures faults { faults self.old + failed result ≤ faults self.new }
@@ -64,7 +67,8 @@ pub trait Link {
         ensures given { given self.new ≡ given self.old }
         ensures got { got self.new ≡ added (got self.old) (carried result body.now) }
         ensures held { held self.new ≡ held self.old }
-        ensures long { (IsBody body.now → ⊥) → result ≡ sent.Failed };
+        ensures long { (IsBody body.now → ⊥) → result ≡ sent.Failed }
+        ensures shut { shut self.old ≡ Some true → result ≡ sent.Done → ⊥ };
 
     /// The same for a body that may rest for so many milliseconds, while later ones pass it. It goes with a `recv` behind that time, and who
     /// waits on the bell meanwhile returns by then.
@@ -74,7 +78,8 @@ pub trait Link {
         ensures given { given self.new ≡ given self.old }
         ensures got { got self.new ≡ added (got self.old) (carried result body.now) }
         ensures held { held self.new ≡ held self.old }
-        ensures long { (IsBody body.now → ⊥) → result ≡ sent.Failed };
+        ensures long { (IsBody body.now → ⊥) → result ≡ sent.Failed }
+        ensures shut { shut self.old ≡ Some true → result ≡ sent.Done → ⊥ };
 
     /// Gives the next body, where a whole frame is there.
     fn recv<R: Wait + Clock>(&mut self, rt: &R) -> Got
@@ -92,12 +97,14 @@ pub trait Link {
     /// Ends the link for the other end, which finds it closed behind what it gets still. Nothing more goes to it.
     fn hang_up(&mut self)
         ensures counts { (faults self.new ≡ faults self.old) × (closes self.new ≡ closes self.old) }
-        ensures bodies { (given self.new ≡ given self.old) × (got self.new ≡ got self.old) × (held self.new ≡ held self.old) };
+        ensures bodies { (given self.new ≡ given self.old) × (got self.new ≡ got self.old) × (held self.new ≡ held self.old) }
+        ensures shut { IsShut (shut self.new) };
 
     /// Ends the sending side behind what the link got, and drops what comes still, until the other end is gone too. It waits for a second at most.
     fn leave<R: Wait + Clock>(&mut self, rt: &R)
         ensures counts { (faults self.new ≡ faults self.old) × (closes self.new ≡ closes self.old) }
-        ensures bodies { (given self.new ≡ given self.old) × (got self.new ≡ got self.old) × (held self.new ≡ held self.old) };
+        ensures bodies { (given self.new ≡ given self.old) × (got self.new ≡ got self.old) × (held self.new ≡ held self.old) }
+        ensures shut { IsShut (shut self.new) };
 
     /// What threads wait on for this link. It rings whenever `recv` may have something new. `Failed` is a fault of the link.
     fn bell<R: Around>(&mut self, rt: &R) -> Result<Self::Bell, NetFault>

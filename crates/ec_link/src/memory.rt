@@ -1,11 +1,11 @@
 // Links in memory: two ends in one process.
-ghost use Rattle.std.specs.Prelude.{◌≡◌, ℕ, [], ◌++◌, List, drop, IfOk, IfSome, IfNone};
+ghost use Rattle.std.specs.Prelude.{◌≡◌, ℕ, true, [], ◌++◌, List, drop, IfOk, IfSome, IfNone};
 ghost use Rattle.ec_base.specs.Outside.{one_more};
 ghost use Rattle.ec_streams.specs.OfFrame.Frames.{BeginsNone};
 ghost use Rattle.ec_link.specs.declared.link.Sent.TheVariants as sent;
 ghost use Rattle.ec_link.specs.LinkAnswers.{failed, fault_of, close_of, heard, carried, Reads};
 ghost use Rattle.ec_link.specs.HappeningBodies.{More};
-ghost use Rattle.ec_link.specs.Memory.{is_due, IsNewLink};
+ghost use Rattle.ec_link.specs.Memory.{is_due, is_shut, IsNewLink};
 
 use crate::around::Around;
 use crate::bell::{Knocker, MemBell};
@@ -203,6 +203,7 @@ impl MemLink {
     fn carry<R: Wait + Clock>(&mut self, rt: &R, bytes: Vec<u8>) -> Sent
         ensures happened { More self.old.happened self.new.happened (failed result) 0 [] (carried result (drop 4 bytes.items)) }
         ensures held { self.new.frames.left ≡ self.old.frames.left }
+        ensures shut { is_shut self.old ≡ true → result ≡ sent.Done → ⊥ }
     {
         let copy = Snapshot::of(&bytes);
         let Some(to) = &self.line.to else {
@@ -278,6 +279,7 @@ impl Link for MemLink {
     ghost use Rattle.std.specs.Prelude.{Some, true};
     ghost use Rattle.ec_link.specs.Happenings.{faults_in};
     ghost use Rattle.ec_link.specs.HappeningBodies.{closes_in, given_in, got_in};
+    ghost use Rattle.ec_link.specs.Memory.{is_shut};
 
     ghost faults = { λ link. faults_in link.happened };
 
@@ -290,6 +292,8 @@ impl Link for MemLink {
     ghost held = { λ link. link.frames.left };
 
     ghost clear = { λ link. true };
+
+    ghost shut = { λ link. Some (is_shut link) };
 
     fn send<R: Wait + Clock>(&mut self, rt: &R, body: &[u8]) -> Sent {
         if self.fails_now() {

@@ -1,5 +1,5 @@
 // A net in memory, which hands out memory pairs by address.
-ghost use Rattle.std.specs.Prelude.{◌≡◌, ◌+◌, [], IfOk, IfSome, nat_eq};
+ghost use Rattle.std.specs.Prelude.{◌≡◌, ◌+◌, [], ◌∷◌, ◌++◌, map, IfOk, IfSome, nat_eq};
 ghost use Rattle.std.specs.List.{list_any};
 ghost use Rattle.ec_base.specs.Outside.{one_more};
 ghost use Rattle.ec_link.specs.Happenings.{faults_in};
@@ -7,6 +7,7 @@ ghost use Rattle.ec_link.specs.Memory.{IsNewLink};
 ghost use Rattle.ec_link.specs.NetAnswers.{faulted};
 
 use crate::around::Around;
+use crate::asked::named;
 use crate::bell::{Bell, MemBell};
 use crate::happenings::Happenings;
 use crate::memory::{Line, MemLink, lines};
@@ -137,12 +138,14 @@ pub struct MemNet {
     calls: u64,
     happened: Happenings,
     came_back: Trace<Snapshot<MemLink>>,
+    // The addresses of `listen` and `call`.
+    asked: Trace<Trace<u8>>,
 }
 
 impl MemNet {
     /// A net on which nobody listens. The calls of `listen` and `call` whose number, from 1, is in the list fail.
     pub fn new(alloc: Global, fails: Vec<u64>) -> Result<MemNet, NoMemory>
-        ensures { IfOk result (λ net. (faults_in net.happened ≡ 0) × (net.came_back.items ≡ []) × (net.fails ≡ fails) × (net.calls ≡ 0)) }
+        ensures { IfOk result (λ net. (faults_in net.happened ≡ 0) × (net.came_back.items ≡ []) × (net.fails ≡ fails) × (net.calls ≡ 0) × (net.asked.items ≡ [])) }
     {
         let Ok(listeners) = Arc::new(alloc, Mutex::new(Vec::new(alloc))) else {
             return Err(NoMemory);
@@ -154,12 +157,13 @@ impl MemNet {
             calls: 0,
             happened: Happenings::new(),
             came_back: Trace::new(),
+            asked: Trace::new(),
         })
     }
 
     /// A second net of the same addresses, for another thread. None of its calls is to fail.
     pub fn share(&self) -> Result<MemNet, NoMemory>
-        ensures { IfOk result (λ net. (faults_in net.happened ≡ 0) × (net.came_back.items ≡ []) × (net.fails.items ≡ [])) }
+        ensures { IfOk result (λ net. (faults_in net.happened ≡ 0) × (net.came_back.items ≡ []) × (net.fails.items ≡ []) × (net.asked.items ≡ [])) }
     {
         let listeners = Arc::try_clone(&self.listeners)?;
         Ok(MemNet {
@@ -169,6 +173,7 @@ impl MemNet {
             calls: 0,
             happened: Happenings::new(),
             came_back: Trace::new(),
+            asked: Trace::new(),
         })
     }
 
@@ -190,6 +195,14 @@ fn find<'a>(listeners: &'a [Listener], addr: &str) -> Option<&'a Listener> {
 }
 
 impl MemNet {
+    // Notes an address that it's asked for.
+    fn note(&mut self, addr: &str)
+        ensures others { self.new ≡ record self.old { asked = self.new.asked } }
+        ensures asked { map (λ name. name.items) self.new.asked.items ≡ map (λ name. name.items) self.old.asked.items ++ addr.now ∷ [] }
+    {
+        self.asked = self.asked.and(&named(addr));
+    }
+
     // Counts a call, and tells whether it is to fail.
     fn fails_now(&mut self) -> bool
         ensures others { self.new ≡ record self.old { calls = one_more self.old.calls } }
@@ -272,7 +285,10 @@ impl Net for MemNet {
 
     ghost ended = { λ net. map (λ link. (Some (given_in link.value.happened), Some (got_in link.value.happened))) net.came_back.items };
 
+    ghost asked = { λ net. map (λ name. name.items) net.asked.items };
+
     fn listen<R: Around>(&mut self, rt: &R, addr: &str) -> Result<MemDoor, NetFault> {
+        self.note(addr);
         if self.fails_now() {
             return self.counted(Err(NetFault::Failed));
         }
@@ -294,6 +310,7 @@ impl Net for MemNet {
     }
 
     fn call<R: Around>(&mut self, rt: &R, addr: &str) -> Result<MemLink, NetFault> {
+        self.note(addr);
         if self.fails_now() {
             return self.counted(Err(NetFault::Failed));
         }

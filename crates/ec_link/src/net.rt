@@ -58,10 +58,14 @@ pub trait Net: Send {
     // What the links that came back gave and got, in order.
     ghost ended: { Self → List Ended };
 
+    // The addresses that it was asked for, by `listen` and by `call`, in order.
+    ghost asked: { Self → List (List ℕ) };
+
     /// Opens a door at the address.
     fn listen<R: Around>(&mut self, rt: &R, addr: &str) -> Result<Self::Door, NetFault>
         ensures faults { faults self.old + faulted result ≤ faults self.new }
-        ensures same { (bad self.new ≡ bad self.old) × (ended self.new ≡ ended self.old) };
+        ensures same { (bad self.new ≡ bad self.old) × (ended self.new ≡ ended self.old) }
+        ensures asked { asked self.new ≡ asked self.old ++ addr.now ∷ [] };
 
     /// Where the door is, if it has an address of the system's.
     fn place(&self, door: &Self::Door) -> Option<SocketAddr>;
@@ -73,7 +77,8 @@ pub trait Net: Send {
         door: &mut Self::Door,
     ) -> Result<Self::DoorBell, NetFault>
         ensures faults { faults self.old + faulted result ≤ faults self.new }
-        ensures same { (bad self.new ≡ bad self.old) × (ended self.new ≡ ended self.old) };
+        ensures same { (bad self.new ≡ bad self.old) × (ended self.new ≡ ended self.old) }
+        ensures asked { asked self.new ≡ asked self.old };
 
     /// The next link at the door, where one is there, with no faults and no closes, which gave and got nothing. It waits for nobody. Where
     /// there is no room for a link, it's as if none were there, though the bell doesn't ring once there is: who waits looks again in time.
@@ -84,12 +89,14 @@ pub trait Net: Send {
     ) -> Result<Option<Self::Link>, NetFault>
         ensures faults { faults self.old + faulted result ≤ faults self.new }
         ensures same { (bad self.new ≡ bad self.old) × (ended self.new ≡ ended self.old) }
+        ensures asked { asked self.new ≡ asked self.old }
         ensures link { IfOk result (λ found. IfSome found (λ link. (Self.Link.faults link ≡ 0) × (Self.Link.closes link ≡ 0) × IsEmpty (Self.Link.given link) × IsEmpty (Self.Link.got link))) };
 
     /// Waits for the next link at the door. It has no faults and no closes, and gave and got nothing.
     fn accept<R: Around>(&mut self, rt: &R, door: &mut Self::Door) -> Result<Self::Link, NetFault>
         ensures faults { faults self.old + faulted result ≤ faults self.new }
         ensures same { (bad self.new ≡ bad self.old) × (ended self.new ≡ ended self.old) }
+        ensures asked { asked self.new ≡ asked self.old }
         ensures link { IfOk result (λ link. (Self.Link.faults link ≡ 0) × (Self.Link.closes link ≡ 0) × IsEmpty (Self.Link.given link) × IsEmpty (Self.Link.got link)) }
     {
         let bell = self.door_bell(rt, door)?;
@@ -107,6 +114,7 @@ pub trait Net: Send {
     fn call<R: Around>(&mut self, rt: &R, addr: &str) -> Result<Self::Link, NetFault>
         ensures faults { faults self.old + faulted result ≤ faults self.new }
         ensures same { (bad self.new ≡ bad self.old) × (ended self.new ≡ ended self.old) }
+        ensures asked { asked self.new ≡ asked self.old ++ addr.now ∷ [] }
         ensures link { IfOk result (λ link. (Self.Link.faults link ≡ 0) × (Self.Link.closes link ≡ 0) × IsEmpty (Self.Link.given link) × IsEmpty (Self.Link.got link)) };
 
     /// Why the last call that failed did, where the system told it. Its text is for people.
@@ -116,5 +124,6 @@ pub trait Net: Send {
     fn back(&mut self, link: Self::Link) -> Result<(), NoMemory>
         ensures faults { faults self.new ≡ faults self.old }
         ensures bad { OnOk result (bad self.new ≡ bad self.old + is_bad (Self.Link.faults link) (Self.Link.closes link)) }
-        ensures ended { OnOk result (ended self.new ≡ ended self.old ++ (Self.Link.given link, Self.Link.got link) ∷ []) };
+        ensures ended { OnOk result (ended self.new ≡ ended self.old ++ (Self.Link.given link, Self.Link.got link) ∷ []) }
+        ensures asked { asked self.new ≡ asked self.old };
 }

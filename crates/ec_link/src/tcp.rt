@@ -374,7 +374,7 @@ fn bell_of<R: Net>(
 impl Link for TcpLink {
     type Bell = TcpBell;
 
-    ghost use Rattle.std.specs.Prelude.{Some};
+    ghost use Rattle.std.specs.Prelude.{Some, None};
     ghost use Rattle.ec_link.specs.Happenings.{faults_in};
     ghost use Rattle.ec_link.specs.HappeningBodies.{closes_in, given_in, got_in};
     ghost use Rattle.ec_link.specs.Tcp.{has_sent_all};
@@ -390,6 +390,9 @@ impl Link for TcpLink {
     ghost held = { λ link. link.frames.left };
 
     ghost clear = { has_sent_all };
+
+    // Nothing tells it of a socket.
+    ghost shut = { λ _. None };
 
     fn send<R: Wait + Clock>(&mut self, rt: &R, body: &[u8]) -> Sent {
         match frame(self.alloc, body) {

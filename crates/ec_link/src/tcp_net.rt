@@ -1,10 +1,11 @@
 // The net over TCP.
-ghost use Rattle.std.specs.Prelude.{◌≡◌, ◌+◌, [], IfOk, IfSome};
+ghost use Rattle.std.specs.Prelude.{◌≡◌, ◌+◌, [], ◌∷◌, ◌++◌, map, IfOk, IfSome};
 ghost use Rattle.ec_link.specs.Happenings.{faults_in};
 ghost use Rattle.ec_link.specs.NetAnswers.{faulted};
 ghost use Rattle.ec_link.specs.Tcp.{IsNewOver};
 
 use crate::around::Around;
+use crate::asked::named;
 use crate::happenings::Happenings;
 use crate::net::{Net, NetFault};
 use crate::tcp::TcpLink;
@@ -22,6 +23,8 @@ use std::snapshot::Snapshot;
 pub struct TcpNet {
     happened: Happenings,
     came_back: Trace<Snapshot<TcpLink>>,
+    // The addresses of `listen` and `call`.
+    asked: Trace<Trace<u8>>,
     // Why the last call that failed did.
     why: Option<io::Error>,
 }
@@ -29,13 +32,22 @@ pub struct TcpNet {
 impl TcpNet {
     /// A net that has handed out nothing.
     pub fn new() -> TcpNet
-        ensures { (faults_in result.happened ≡ 0) × (result.came_back.items ≡ []) }
+        ensures { (faults_in result.happened ≡ 0) × (result.came_back.items ≡ []) × (result.asked.items ≡ []) }
     {
         TcpNet {
             happened: Happenings::new(),
             came_back: Trace::new(),
+            asked: Trace::new(),
             why: None,
         }
+    }
+
+    // Notes an address that it's asked for.
+    fn note(&mut self, addr: &str)
+        ensures others { self.new ≡ record self.old { asked = self.new.asked } }
+        ensures asked { map (λ name. name.items) self.new.asked.items ≡ map (λ name. name.items) self.old.asked.items ++ addr.now ∷ [] }
+    {
+        self.asked = self.asked.and(&named(addr));
     }
 
     // Counts a fault, where it is one.
@@ -67,7 +79,7 @@ impl TcpNet {
     fn linked(&mut self, alloc: Global, stream: io::Result<TcpStream>) -> Result<TcpLink, NetFault>
         ensures link { IfOk result (λ link. IsNewOver link) }
         ensures faults { faults_in self.new.happened ≡ faults_in self.old.happened + faulted result }
-        ensures same { self.new.came_back ≡ self.old.came_back }
+        ensures same { (self.new.came_back ≡ self.old.came_back) × (self.new.asked ≡ self.old.asked) }
     {
         let link = match self.heard(stream) {
             Ok(stream) => TcpLink::over(alloc, stream, None),
@@ -143,7 +155,10 @@ impl Net for TcpNet {
 
     ghost ended = { λ net. map (λ link. (Some (given_in link.value.happened), Some (got_in link.value.happened))) net.came_back.items };
 
+    ghost asked = { λ net. map (λ name. name.items) net.asked.items };
+
     fn listen<R: Around>(&mut self, rt: &R, addr: &str) -> Result<TcpDoor, NetFault> {
+        self.note(addr);
         let door = self.heard(opened(TcpListener::bind(rt, addr)));
         self.counted(door)
     }
@@ -163,6 +178,7 @@ impl Net for TcpNet {
     }
 
     fn call<R: Around>(&mut self, rt: &R, addr: &str) -> Result<TcpLink, NetFault> {
+        self.note(addr);
         self.linked(rt.alloc(), connected(TcpStream::connect(rt, addr)))
     }
 

@@ -1,6 +1,7 @@
 // A mounted clerk: it's started, run over a link of the net, and ended.
-ghost use Rattle.std.specs.Prelude.{◌≡◌, ◌≤◌, ◌+◌, [], Err, IfSome};
+ghost use Rattle.std.specs.Prelude.{◌≡◌, ◌≤◌, ◌+◌, [], Err, IfOk, IfSome};
 ghost use Rattle.ec_clerknode.specs.LaneRuns.{lists_of};
+ghost use Rattle.ec_link.specs.LinkAnswers.{IsShut};
 ghost use Rattle.ec_link.specs.NetAnswers.{IsEmpty};
 ghost use Rattle.ec_mount.specs.Work.{RunsOver, WorksOver, Works, Concludes, last_answer as last_of, given_of};
 
@@ -88,6 +89,7 @@ fn last_of(boot: Option<Age>, last: Result<Reply, NodeFault>) -> Result<Reply, N
 fn left<L: Link, R: Around>(rt: &R, link: L, answers: &Answers) -> L
     ensures counts { (L.faults result ≡ L.faults link) × (L.closes result ≡ L.closes link) }
     ensures bodies { (L.given result ≡ L.given link) × (L.got result ≡ L.got link) }
+    ensures shut { IfOk answers.now.last (λ _. IsShut (L.shut result)) }
 {
     let mut link = link;
     if answers.last.is_ok() {

@@ -3,7 +3,8 @@
 use ec_link::{Around, Bell, Got, Link, MemLink, Net, Sent, TcpNet, mem_pair};
 use std::net::{TcpListener, TcpStream};
 use std::sync::Wait;
-use std::time::Clock;
+use std::thread;
+use std::time::{Clock, Duration};
 
 // The types of the runtime's net. A test names them, so that its table of types has them.
 type NetTypes = (Option<TcpListener>, Option<TcpStream>);
@@ -148,4 +149,45 @@ fn body_over_loopback(rt: HostRuntime) {
     drop::<NetTypes>((None, None));
     let mut net = TcpNet::new();
     assert!(rt; body_comes_over(&rt, &mut net, "127.0.0.1:4712"));
+}
+
+// Whether the link gives this within a second.
+fn comes<L: Link, R: Around>(rt: &R, link: &mut L, want: Given) -> bool {
+    for _ in 0..100 {
+        if gives(rt, link, want) {
+            return true;
+        }
+        thread::sleep(rt, Duration::from_millis(10));
+    }
+    false
+}
+
+// How an end of a link ends it.
+#[derive(Clone, Copy)]
+enum Goes {
+    HangsUp,
+    Leaves,
+}
+
+// Whether the other end finds the link closed while this end still has it.
+fn is_found_closed<N: Net, R: Around>(rt: &R, net: &mut N, addr: &str, goes: Goes) -> bool {
+    let Some((mut near, mut far)) = ends(rt, net, addr) else {
+        return false;
+    };
+    match goes {
+        Goes::HangsUp => near.hang_up(),
+        Goes::Leaves => near.leave(rt),
+    }
+    let is_closed = comes(rt, &mut far, Given::Closed);
+    drop(near);
+    drop(far);
+    is_closed
+}
+
+#[test]
+fn ended_link_is_found_closed(rt: HostRuntime) {
+    drop::<NetTypes>((None, None));
+    let mut net = TcpNet::new();
+    assert!(rt; is_found_closed(&rt, &mut net, "127.0.0.1:4713", Goes::HangsUp));
+    assert!(rt; is_found_closed(&rt, &mut net, "127.0.0.1:4714", Goes::Leaves));
 }

@@ -7,7 +7,7 @@ ghost use Rattle.ec_servernode.specs.Node.{state_of, queue_at};
 ghost use Rattle.ec_servernode.specs.TurnSteps.{IsServerPass};
 ghost use Rattle.ec_lock.specs.PassViews.{first};
 ghost use Rattle.ec_store.specs.Store.{IsHeld, view_of};
-ghost use Rattle.ec_serve.specs.Serve.{Outer, Serves};
+ghost use Rattle.ec_serve.specs.Serve.{AsksOnce, Outer, Serves};
 ghost use Rattle.ec_serve.specs.ServerRuns.{ServesOn, EndsBy, RanFrom, RanServer};
 
 use crate::ending::{Ending, ending_of, unopened, unstarted};
@@ -40,6 +40,7 @@ pub fn serve<D: Disk + Send, N: Net, R: Around + Eprint>(
     to: Listening<'_>,
 ) -> Ending
     ensures later { (N.faults net.old ≤ N.faults net.new) × (faults_of spawner.old ≤ faults_of spawner.new) }
+    ensures asked { AsksOnce to.entry.addr.now (N.asked net.old) (N.asked net.new) }
     ensures counts { ((D.counts disk.old).faults ≤ (D.counts disk.new).faults) × ((D.counts disk.old).stops ≤ (D.counts disk.new).stops) }
     ensures serves { Serves to.entry.count result
         (record {
@@ -70,6 +71,7 @@ fn serve_store<D: Disk + Send, N: Net, R: Around + Eprint>(
 ) -> Ending
     requires held { D.tells → IsHeld (D.view disk.old) store.old }
     ensures later { (N.faults net.old ≤ N.faults net.new) × (faults_of spawner.old ≤ faults_of spawner.new) }
+    ensures asked { AsksOnce to.entry.addr.now (N.asked net.old) (N.asked net.new) }
     ensures counts { ((D.counts disk.old).faults ≤ (D.counts disk.new).faults) × ((D.counts disk.old).stops ≤ (D.counts disk.new).stops) }
     ensures serves { ServesOn (view_of store.old) to.entry.count result
         (record {
@@ -98,6 +100,7 @@ fn serve_kept<'a, D: Disk + Send, N: Net, R: Around + Eprint>(
     requires held { D.tells → IsHeld (D.view keeper.disk.now) keeper.store.now }
     ensures same { (result.0.store.ghost_name ≡ keeper.entry.store.ghost_name) × (result.0.disk.ghost_name ≡ keeper.entry.disk.ghost_name) }
     ensures later { (N.faults net.old ≤ N.faults net.new) × (faults_of spawner.old ≤ faults_of spawner.new) }
+    ensures asked { AsksOnce to.entry.addr.now (N.asked net.old) (N.asked net.new) }
     ensures counts { ((D.counts keeper.entry.disk.now).faults ≤ (D.counts result.0.disk.now).faults) × ((D.counts keeper.entry.disk.now).stops ≤ (D.counts result.0.disk.now).stops) }
     ensures serves { ServesOn (view_of keeper.entry.store.now) to.entry.count result.1
         (record {
@@ -122,6 +125,7 @@ fn serve_by<K: Keeper + Send + Drop, N: Net, R: Around + Eprint>(
     to: Listening<'_>,
 ) -> (K, Ending)
     ensures later { (N.faults net.old ≤ N.faults net.new) × (faults_of spawner.old ≤ faults_of spawner.new) }
+    ensures asked { AsksOnce to.entry.addr.now (N.asked net.old) (N.asked net.new) }
     ensures ends { EndsBy K.kept K.counts K.did K.broke to.entry.count result.1 keeper result.0
         (record { faults = N.faults net.old; bad = N.bad net.old; ended = N.ended net.old; starts = faults_of spawner.old })
         (record { faults = N.faults net.new; bad = N.bad net.new; ended = N.ended net.new; starts = faults_of spawner.new }) }
@@ -143,6 +147,7 @@ fn serve_started<K: Keeper + Send + Drop, N: Net, R: Around + Eprint>(
 ) -> (K, Ending)
     requires { StandsOn (K.kept keeper) started.0 }
     ensures later { (N.faults net.old ≤ N.faults net.new) × (faults_of spawner.old ≤ faults_of spawner.new) }
+    ensures asked { AsksOnce to.entry.addr.now (N.asked net.old) (N.asked net.new) }
     ensures ends { RanFrom K.kept K.counts K.did K.broke started.0 started.1.sent to.entry.count result.1 keeper result.0
         (record { faults = N.faults net.old; bad = N.bad net.old; ended = N.ended net.old; starts = faults_of spawner.old })
         (record { faults = N.faults net.new; bad = N.bad net.new; ended = N.ended net.new; starts = faults_of spawner.new }) }
@@ -165,6 +170,7 @@ fn serve_shared<K: Keeper + Send + Drop, N: Net, R: Around + Eprint>(
 ) -> (K, Ending)
     requires { IsServerPass K.kept server.lock pass }
     ensures later { (N.faults net.old ≤ N.faults net.new) × (faults_of spawner.old ≤ faults_of spawner.new) }
+    ensures asked { AsksOnce to.entry.addr.now (N.asked net.old) (N.asked net.new) }
     ensures ends { RanServer K.kept K.counts K.did K.broke (state_of K.kept (first server.lock)) (queue_at (first server.lock).boxes.items) to.entry.count result.1 (first server.lock).keeper result.0
         (record { faults = N.faults net.old; bad = N.bad net.old; ended = N.ended net.old; starts = faults_of spawner.old })
         (record { faults = N.faults net.new; bad = N.bad net.new; ended = N.ended net.new; starts = faults_of spawner.new }) }

@@ -1,11 +1,12 @@
 // The links of a server, from the first to the last.
-ghost use Rattle.std.specs.Prelude.{◌≡◌, ◌+◌, ◌≤◌};
+ghost use Rattle.std.specs.Prelude.{◌≡◌, ◌+◌, ◌≤◌, [], ◌∷◌, ◌++◌};
 ghost use mathlib.Core.List.{IsPrefix};
 ghost use Rattle.ec_lock.specs.PassViews.{front, numbers};
 ghost use Rattle.ec_link.specs.NetAnswers.{faulted};
 ghost use Rattle.ec_link.specs.Spawns.{faults_of};
 ghost use Rattle.ec_link.specs.declared.spawn.Spawned.TheVariants as spawned;
 ghost use Rattle.ec_servernode.specs.TurnSteps.{IsServerPass};
+ghost use Rattle.ec_serve.specs.Serve.{AsksOnce};
 ghost use Rattle.ec_serve.specs.ServerRuns.{Tends, tended_of};
 
 use crate::ending::Tended;
@@ -29,6 +30,7 @@ pub fn tend<K: Keeper + Send + Drop, N: Net, R: Around + Eprint>(
     requires pass { IsServerPass K.kept server.now.lock pass.old }
     ensures pass { IsServerPass K.kept server.now.lock pass.new }
     ensures later { (N.faults net.old ≤ N.faults net.new) × (faults_of spawner.old ≤ faults_of spawner.new) }
+    ensures asked { AsksOnce to.entry.addr.now (N.asked net.old) (N.asked net.new) }
     ensures tends { Tends to.entry.count result (numbers pass.new.pass) (front pass.new.pass)
         (record { faults = N.faults net.old; bad = N.bad net.old; ended = N.ended net.old; starts = faults_of spawner.old })
         (record { faults = N.faults net.new; bad = N.bad net.new; ended = N.ended net.new; starts = faults_of spawner.new }) }
@@ -64,6 +66,7 @@ fn open<N: Net, R: Around + Eprint>(
 ) -> Result<(N::Door, N::DoorBell), NetFault>
     ensures faults { N.faults net.old + faulted result ≤ N.faults net.new }
     ensures same { (N.bad net.new ≡ N.bad net.old) × (N.ended net.new ≡ N.ended net.old) }
+    ensures asked { N.asked net.new ≡ N.asked net.old ++ addr.now ∷ [] }
 {
     match open_door(rt, net, addr) {
         Ok((door, bell)) => {
@@ -84,6 +87,7 @@ fn open_door<N: Net, R: Around>(
 ) -> Result<(N::Door, N::DoorBell), NetFault>
     ensures faults { N.faults net.old + faulted result ≤ N.faults net.new }
     ensures same { (N.bad net.new ≡ N.bad net.old) × (N.ended net.new ≡ N.ended net.old) }
+    ensures asked { N.asked net.new ≡ N.asked net.old ++ addr.now ∷ [] }
 {
     let mut door = net.listen(rt, addr)?;
     let bell = net.door_bell(rt, &mut door)?;

@@ -113,6 +113,7 @@ impl<'s, 'b, K: Keeper + Drop, N: Net> Connections<'s, 'b, K, N> {
         ensures server { self.new.server ≡ self.old.server }
         ensures others { (self.new.tally.left ≡ self.old.tally.left) × (self.new.tally.begun ≡ self.old.tally.begun) × (self.new.tally.failed ≡ self.old.tally.failed) }
         ensures faults { N.faults net.new ≡ N.faults net.old }
+        ensures asked { N.asked net.new ≡ N.asked net.old }
         ensures back { (shot : Shot N.Link) × (shot.value ≡ link) × (self.new.tally.back.items ≡ self.old.tally.back.items ++ shot ∷ []) }
         ensures wants { self.old.tally.wants ≡ true → self.new.tally.wants ≡ true }
         ensures came { self.new.tally.wants ≡ false → (self.old.tally.wants ≡ false) × (is_over ≡ true) × (N.ended net.new ≡ N.ended net.old ++ (N.Link.given link, N.Link.got link) ∷ []) × (N.bad net.new ≡ N.bad net.old + is_bad (N.Link.faults link) (N.Link.closes link)) }
@@ -155,6 +156,7 @@ impl<'s, 'b, K: Keeper + Drop, N: Net> Connections<'s, 'b, K, N> {
         ensures server { self.new.server ≡ self.old.server }
         ensures goes { GoesOn N.faults N.bad N.ended (back_of N.Link.faults N.Link.closes N.Link.given N.Link.got)
             (moment net.old self.old.tally pass.old.pass) (moment net.new self.new.tally pass.new.pass) }
+        ensures asked { N.asked net.new ≡ N.asked net.old }
         ensures begun { length self.new.tally.begun.items ≡ length self.old.tally.begun.items + job_taken result }
         ensures back { self.new.tally.back ≡ self.old.tally.back }
         ensures some { IfSome result (λ c. (c.server ≡ self.old.server) × IsServerPass K.kept self.old.server.now.lock c.pass × BeginsSo N.Link.given N.Link.got c.pass.pass c.link) }
@@ -184,6 +186,7 @@ impl<'s, 'b, K: Keeper + Drop, N: Net> Connections<'s, 'b, K, N> {
         ensures server { self.new.server ≡ self.old.server }
         ensures goes { GoesOn N.faults N.bad N.ended (back_of N.Link.faults N.Link.closes N.Link.given N.Link.got)
             (moment net.old self.old.tally pass.old.pass) (moment net.new self.new.tally pass.new.pass) }
+        ensures asked { N.asked net.new ≡ N.asked net.old }
         ensures gone { GivesBack 1 self.old.tally self.new.tally }
     {
         let Ended {

@@ -213,6 +213,7 @@ where
     ensures server { connections.new.server ≡ connections.old.server }
     ensures goes { GoesOn N.faults N.bad N.ended (back_of N.Link.faults N.Link.closes N.Link.given N.Link.got)
         (moment net.old connections.old.tally pass.old.pass) (moment net.new connections.new.tally pass.new.pass) }
+    ensures asked { N.asked net.new ≡ N.asked net.old }
     ensures each { result ≡ spawned.All → AreLive connections.old.tally connections.new.tally (slab_len live.old.links) (slab_len live.new.links) }
     ensures over { result ≡ spawned.All → NoneComes connections.new.tally }
     ensures kept { AllServe (λ one. one.handle.promise.0.value) connections.old.server.now live.new.links }
@@ -254,6 +255,7 @@ where
     ensures server { connections.new.server ≡ connections.old.server }
     ensures goes { GoesOn N.faults N.bad N.ended (back_of N.Link.faults N.Link.closes N.Link.given N.Link.got)
         (moment net.old connections.old.tally pass.old.pass) (moment net.new connections.new.tally pass.new.pass) }
+    ensures asked { N.asked net.new ≡ N.asked net.old }
     ensures back { connections.new.tally.back ≡ connections.old.tally.back }
     ensures each { length connections.new.tally.begun.items + slab_len live.old.links ≡ length connections.old.tally.begun.items + slab_len live.new.links + refused_by result }
     ensures over { IfSome result (λ s. s ≡ spawned.All → NoneComes connections.new.tally) }
@@ -312,6 +314,7 @@ fn give_back_ended<K: Keeper + Drop, N: Net, R: Around>(
     ensures server { connections.new.server ≡ connections.old.server }
     ensures goes { GoesOn N.faults N.bad N.ended (back_of N.Link.faults N.Link.closes N.Link.given N.Link.got)
         (moment net.old connections.old.tally pass.old.pass) (moment net.new connections.new.tally pass.new.pass) }
+    ensures asked { N.asked net.new ≡ N.asked net.old }
     ensures begun { connections.new.tally.begun ≡ connections.old.tally.begun }
     ensures each { length connections.new.tally.back.items + slab_len live.new ≡ length connections.old.tally.back.items + slab_len live.old }
     ensures kept { AllServe (λ one. one.handle.promise.0.value) connections.old.server.now live.new }
@@ -340,6 +343,7 @@ fn give_back<K: Keeper + Drop, N: Net, R: Around>(
     ensures server { connections.new.server ≡ connections.old.server }
     ensures goes { GoesOn N.faults N.bad N.ended (back_of N.Link.faults N.Link.closes N.Link.given N.Link.got)
         (moment net.old connections.old.tally pass.old.pass) (moment net.new connections.new.tally pass.new.pass) }
+    ensures asked { N.asked net.new ≡ N.asked net.old }
     ensures begun { connections.new.tally.begun ≡ connections.old.tally.begun }
     ensures each { length connections.new.tally.back.items + slab_len live.new ≡ length connections.old.tally.back.items + slab_len live.old }
     ensures kept { AllServe (λ one. one.handle.promise.0.value) connections.old.server.now live.new }
@@ -364,6 +368,7 @@ fn finish_all<K: Keeper + Drop, N: Net, R: Around>(
     ensures server { connections.new.server ≡ connections.old.server }
     ensures goes { GoesOn N.faults N.bad N.ended (back_of N.Link.faults N.Link.closes N.Link.given N.Link.got)
         (moment net.old connections.old.tally pass.old.pass) (moment net.new connections.new.tally pass.new.pass) }
+    ensures asked { N.asked net.new ≡ N.asked net.old }
     ensures gone { GivesBack (slab_len live) connections.old.tally connections.new.tally }
 {
     for entry in live {
@@ -401,6 +406,7 @@ where
     ensures server { connections.new.server ≡ connections.old.server }
     ensures goes { GoesOn N.faults N.bad N.ended (back_of N.Link.faults N.Link.closes N.Link.given N.Link.got)
         (moment net.old connections.old.tally pass.old.pass) (moment net.new connections.new.tally pass.new.pass) }
+    ensures asked { N.asked net.new ≡ N.asked net.old }
     ensures each { result ≡ spawned.All → AllEnded connections.old.tally connections.new.tally }
     ensures faults { faults_of spawner.new ≡ faults_of spawner.old + refused result }
 {
@@ -446,6 +452,7 @@ fn run_scoped<'c, 'p, 'n, 'r, 'q, 'a, 'b, K: Keeper + Send + Drop, N: Net, R: Ar
     ensures pass { IsServerPass K.kept connections.entry.now.server.now.lock result.3.now }
     ensures goes { GoesOn N.faults N.bad N.ended (back_of N.Link.faults N.Link.closes N.Link.given N.Link.got)
         (moment net.entry.now connections.entry.now.tally pass.entry.now.pass) (moment result.0.now result.2.now.tally.value result.3.now.pass) }
+    ensures asked { N.asked result.0.now ≡ N.asked net.entry.now }
     ensures each { result.2.now.spawned ≡ spawned.All → AllEnded connections.entry.now.tally result.2.now.tally.value }
     ensures values { (result.2.now.failed ≡ result.2.now.tally.value.failed) × (result.2.now.wants ≡ result.2.now.tally.value.wants) }
     ensures faults { faults_of result.1.now ≡ faults_of spawner.entry.now + refused result.2.now.spawned }
@@ -462,7 +469,7 @@ fn run_scoped<'c, 'p, 'n, 'r, 'q, 'a, 'b, K: Keeper + Send + Drop, N: Net, R: Ar
         )
             requires { IsServerPass K.kept connections.now.server.now.lock pass.now }
             ensures { (result.0.ghost_name ≡ net.entry.ghost_name) × (result.1.ghost_name ≡ spawner.entry.ghost_name) × (result.2.ghost_name ≡ ran.entry.ghost_name) × (result.3.ghost_name ≡ pass.entry.ghost_name) × IsServerPass K.kept connections.entry.now.server.now.lock result.3.now × GoesOn N.faults N.bad N.ended (back_of N.Link.faults N.Link.closes N.Link.given N.Link.got)
-                (moment net.entry.now connections.entry.now.tally pass.entry.now.pass) (moment result.0.now result.2.now.tally.value result.3.now.pass) × (result.2.now.spawned ≡ spawned.All → AllEnded connections.entry.now.tally result.2.now.tally.value) × ((result.2.now.failed ≡ result.2.now.tally.value.failed) × (result.2.now.wants ≡ result.2.now.tally.value.wants)) × (faults_of result.1.now ≡ faults_of spawner.entry.now + refused result.2.now.spawned) }
+                (moment net.entry.now connections.entry.now.tally pass.entry.now.pass) (moment result.0.now result.2.now.tally.value result.3.now.pass) × (result.2.now.spawned ≡ spawned.All → AllEnded connections.entry.now.tally result.2.now.tally.value) × ((result.2.now.failed ≡ result.2.now.tally.value.failed) × (result.2.now.wants ≡ result.2.now.tally.value.wants)) × (faults_of result.1.now ≡ faults_of spawner.entry.now + refused result.2.now.spawned) × (N.asked result.0.now ≡ N.asked net.entry.now) }
         {
             let spawned = run_in(rt, scope, spawner, net, pass, connections);
             *ran = ran_of(spawned, connections);
@@ -499,6 +506,7 @@ pub fn run_all<K: Keeper + Send + Drop, N: Net, R: Around + Eprint>(
     ensures pass { IsServerPass K.kept connections.old.server.now.lock pass.new }
     ensures goes { GoesOn N.faults N.bad N.ended (back_of N.Link.faults N.Link.closes N.Link.given N.Link.got)
         (moment net.old connections.old.tally pass.old.pass) (moment net.new result.tally.value pass.new.pass) }
+    ensures asked { N.asked net.new ≡ N.asked net.old }
     ensures each { result.spawned ≡ spawned.All → AllEnded connections.old.tally result.tally.value }
     ensures values { (result.failed ≡ result.tally.value.failed) × (result.wants ≡ result.tally.value.wants) }
     ensures faults { faults_of spawner.new ≡ faults_of spawner.old + refused result.spawned }

@@ -31,6 +31,7 @@ loop-entry-preserved g c =
       (let back = done.gone.3 in let before = inv.4 in let size = ap length c.in-Some.ensures.steps in omega (arith, size, back, before)),
       (λ wants. done.gone.4 (inv.5 wants)),
       All-rest (λ e. e.1.handle.promise.0.value ≡ server) c.in-Some.entry c.next.new.self c.loop-entry.entry-iterator c.in-Some.ensures.steps inv.6,
+      done.asked ∙ inv.7,
     )
 
 pub loop-entry-init : goal.loop-entry-init
@@ -43,6 +44,7 @@ loop-entry-init g c =
       (let size = ap length c.into_iter-entry-iterator.ensures.into_iter_gives ∙ length-entries c.args.live in omega (arith, size)),
       (λ wants. wants),
       subst (All (λ e. e.1.handle.promise.0.value ≡ server)) (sym c.into_iter-entry-iterator.ensures.into_iter_gives) (all_entries (λ one. one.handle.promise.0.value) server c.args.live c.requires.kept),
+      refl,
     )
 
 pub returns-clause-gone : goal.returns-clause-gone

@@ -15,3 +15,4 @@ invariant-loop-entry g l =
     × (length l.connections.tally.back.items + length l.entry-iterator ≡ length l.fn.connections.tally.back.items + slab_len l.fn.live)
     × (l.fn.connections.tally.wants ≡ true → l.connections.tally.wants ≡ true)
     × All (λ e. e.1.handle.promise.0.value ≡ l.fn.connections.server.now) l.entry-iterator
+    × (g.N.Net.asked l.net ≡ g.N.Net.asked l.fn.net)

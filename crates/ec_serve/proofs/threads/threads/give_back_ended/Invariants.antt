@@ -14,3 +14,4 @@ invariant-loop g l =
     × (l.connections.tally.begun ≡ l.fn.connections.tally.begun)
     × (length l.connections.tally.back.items + slab_len l.live ≡ length l.fn.connections.tally.back.items + slab_len l.fn.live)
     × AllServe (λ one. one.handle.promise.0.value) l.fn.connections.server.now l.live
+    × (g.N.Net.asked l.net ≡ g.N.Net.asked l.fn.net)

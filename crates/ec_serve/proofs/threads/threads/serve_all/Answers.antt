@@ -7,7 +7,7 @@ use Rattle.ec_serve.proofs.OfThreads.Goes.{goes_watched}
 use Rattle.ec_serve.proofs.threads.threads.serve_all.Goals as goal
 
 pub loop-init : goal.loop-init
-loop-init g c = (tt, tt, c.requires.pass, refl, goes_same g.N.Net.faults g.N.Net.bad g.N.Net.ended (back_of g.N.Link.Link.faults g.N.Link.Link.closes g.N.Link.Link.given g.N.Link.Link.got) _, refl, c.requires.kept, c.requires.warden, refl)
+loop-init g c = (tt, tt, c.requires.pass, refl, goes_same g.N.Net.faults g.N.Net.bad g.N.Net.ended (back_of g.N.Link.Link.faults g.N.Link.Link.closes g.N.Link.Link.given g.N.Link.Link.got) _, refl, c.requires.kept, c.requires.warden, refl, refl)
 
 pub loop-preserved : goal.loop-preserved
 loop-preserved g c =
@@ -29,6 +29,7 @@ loop-preserved g c =
       subst (λ s. AllServe (λ one. one.handle.promise.0.value) s c.serve_next.new.live.links) (ap (λ s. s.now) (ended.server ∙ inv.3)) next.kept,
       subst (λ s. IfSome c.start_warden.new.warden (λ w. w.handle.promise.0.value ≡ s)) (ap (λ s. s.now) server) watch.warden,
       watch.faults ∙ (ap (λ n. faults_of c.serve_next.new.spawner + n) begun_none ∙ (add-zero (faults_of c.serve_next.new.spawner) ∙ (next.faults ∙ (ap (λ n. faults_of c.loop.spawner + n) none ∙ (add-zero (faults_of c.loop.spawner) ∙ inv.8))))),
+      next.asked ∙ (ended.asked ∙ inv.9),
     )
 
 pub returns-in-Some-serve_next-clause-goes : goal.returns-in-Some-serve_next-clause-goes

@@ -17,3 +17,4 @@ invariant-loop g l =
     × AllServe (λ one. one.handle.promise.0.value) l.fn.connections.server.now l.live.links
     × IfSome l.live.warden (λ w. w.handle.promise.0.value ≡ l.fn.connections.server.now)
     × (faults_of l.spawner ≡ faults_of l.fn.spawner)
+    × (g.N.Net.asked l.net ≡ g.N.Net.asked l.fn.net)
