@@ -1,5 +1,5 @@
 -- What a server does with its disk and its net.
-use Rattle.std.specs.Prelude.{◌≡◌, ◌⊎◌, ◌<◌, ◌+◌, ℕ, List, [], ◌∷◌, ◌++◌, length, map, Some, None, Ok}
+use Rattle.std.specs.Prelude.{◌≡◌, ◌⊎◌, ◌<◌, ◌+◌, ℕ, List, [], ◌++◌, length, map, Some, None, Ok}
 use Rattle.ec_base.specs.Outside.{Rose}
 use Rattle.ec_base.specs.declared.counter.Counter.{Counter}
 use Rattle.ec_disk.specs.Disk.{View, Counts}
@@ -36,10 +36,6 @@ pub record Outer : Type 0 where
   pub bad : ℕ
   pub ended : List Ended
   pub starts : ℕ
-
--- The net was asked for this address once, or for nothing: it was asked for these before, and for these now.
-abbrev pub AsksOnce : List ℕ → List (List ℕ) → List (List ℕ) → Type 0
-AsksOnce addr before now = (now ≡ before ++ addr ∷ []) ⊎ (now ≡ before)
 
 -- a disk, a net and who starts threads, before and after
 pub record Outside : Type 1 where

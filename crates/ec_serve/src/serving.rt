@@ -7,7 +7,8 @@ ghost use Rattle.ec_servernode.specs.Node.{state_of, queue_at};
 ghost use Rattle.ec_servernode.specs.TurnSteps.{IsServerPass};
 ghost use Rattle.ec_lock.specs.PassViews.{first};
 ghost use Rattle.ec_store.specs.Store.{IsHeld, view_of};
-ghost use Rattle.ec_serve.specs.Serve.{AsksOnce, Outer, Serves};
+ghost use Rattle.ec_serve.specs.Asking.{AsksOnce};
+ghost use Rattle.ec_serve.specs.Serve.{Outer, Serves};
 ghost use Rattle.ec_serve.specs.ServerRuns.{ServesOn, EndsBy, RanFrom, RanServer};
 
 use crate::ending::{Ending, ending_of, unopened, unstarted};

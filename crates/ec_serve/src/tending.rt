@@ -6,7 +6,7 @@ ghost use Rattle.ec_link.specs.NetAnswers.{faulted};
 ghost use Rattle.ec_link.specs.Spawns.{faults_of};
 ghost use Rattle.ec_link.specs.declared.spawn.Spawned.TheVariants as spawned;
 ghost use Rattle.ec_servernode.specs.TurnSteps.{IsServerPass};
-ghost use Rattle.ec_serve.specs.Serve.{AsksOnce};
+ghost use Rattle.ec_serve.specs.Asking.{AsksOnce};
 ghost use Rattle.ec_serve.specs.ServerRuns.{Tends, tended_of};
 
 use crate::ending::Tended;
