@@ -71,14 +71,6 @@ module _ (id boot : ℕ) (table : List Path) (w : Outside) where
   refused unread.Source result same h p = silent status.SourceFault result (h, same, refl) p
   refused unread.NoMemory result same h p = wanting result p
 
-  -- no thread could be started
-  pub not_started : (rows : List Row) → GivesRows w.left w.left_after rows → w.net_after ≡ w.net → w.held_after ≡ w.held → MountsAll id boot table status.StartFault w
-  not_started rows given net held = silent status.StartFault status.StartFault ((rows, given), net, refl) (refl, held)
-
-  -- memory was wanting before that
-  pub no_table : w.held_after ≡ w.held → MountsAll id boot table status.NoMemory w
-  no_table held = inr held
-
   -- the clerks were run
   module _ (rows : List Row) (given : GivesRows w.left w.left_after rows) (mets : List Seen) (replies : List Reply) (told : List (List (List ℕ))) where
     told_end : (last : Result (List Reply) NodeFault) (result : Status) → Works id boot table rows w.net w.net_after mets replies told last → TellsAll table rows mets replies told last result w.held w.held_after w.writes w.writes_after → MountsAll id boot table result w

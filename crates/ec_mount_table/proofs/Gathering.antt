@@ -2,13 +2,12 @@
 use Rattle.std.proofs.Common.{◌≡◌, ◌+◌, ◌<◌, ◌≤◌, ◌⊎◌, ℕ, zero, suc, List, [], ◌∷◌, ◌++◌, length, drop, Option, Some, None, Result, Ok, Err, slice_index_or, refl, sym, ap, ◌∙◌, subst, inl, inr, ⊎_elim, arith}
 use Rattle.std.specs.Prelude.{map, slice_get, Vec}
 use Rattle.std.specs.declared.alloc.Global.{Global}
-use Rattle.std.proofs.lemmas.List.{append-nil, append_assoc, drop_all, drop_more, length-map}
+use Rattle.std.proofs.lemmas.List.{append-nil, drop_all, drop_more, length-map}
 use Rattle.ec_plain.specs.declared.call.Call.TheVariants.{Sync}
 use Rattle.ec_lock.specs.PassViews.{front}
 use Rattle.ec_lock.specs.declared.types.Pass.{Pass}
 use Rattle.ec_outs.specs.Outs.{Reply}
 use Rattle.ec_clerknode.specs.declared.fault.NodeFault.{NodeFault}
-use Rattle.ec_clerknode.specs.declared.fault.NodeFault.TheVariants as fault
 use Rattle.ec_clerknode.specs.declared.state.Node.{Node}
 use Rattle.ec_clerknode.specs.declared.step.Step.{Step}
 use Rattle.ec_mounts.specs.Mounts.{Makes}
@@ -28,30 +27,6 @@ module _ {S : Type 0} (met_of : S → Met) where
   abbrev pub AreFirst : List S → ℕ → List Reply → Type 0
   AreFirst parts i replies = ((rest : List Reply) → GatherAll (map met_of (drop i parts)) rest → GatherAll (map met_of parts) (replies ++ rest))
       × ((rest : List Reply) (f : NodeFault) → GatherFront (map met_of (drop i parts)) rest f → GatherFront (map met_of parts) (replies ++ rest) f)
-
-  pub first_none : (parts : List S) (replies : List Reply) → replies ≡ [] → AreFirst parts 0 replies
-  first_none parts replies none = (
-    (λ rest all. subst (λ l. GatherAll (map met_of parts) (l ++ rest)) (sym none) all),
-    (λ rest f front. subst (λ l. GatherFront (map met_of parts) (l ++ rest) f) (sym none) front),
-  )
-
-  all_step : (mets : List Met) (met : Met) (reply copy : Reply) (rest : List Reply) → met ≡ Some (Ok reply) → copy ≡ reply → GatherAll mets rest → GatherAll (met ∷ mets) (copy ∷ rest)
-  all_step mets met reply copy rest is same all = subst (λ m. GatherAll (m ∷ mets) (copy ∷ rest)) (sym is) (same, all)
-
-  front_step : (mets : List Met) (met : Met) (reply copy : Reply) (rest : List Reply) (f : NodeFault) → met ≡ Some (Ok reply) → copy ≡ reply → GatherFront mets rest f → GatherFront (met ∷ mets) (copy ∷ rest) f
-  front_step mets met reply copy rest f is same front = subst (λ m. GatherFront (m ∷ mets) (copy ∷ rest) f) (sym is) (same, front)
-
-  -- one more part replied
-  pub first_more : (parts : List S) (i : ℕ) (d : S) (reply copy : Reply) (replies more : List Reply) → i < length parts → met_of (slice_index_or parts i d) ≡ Some (Ok reply) → copy ≡ reply → more ≡ replies ++ copy ∷ [] → AreFirst parts i replies → AreFirst parts (i + 1) more
-  first_more parts i d reply copy replies more l is same longer first =
-      let at = drop_more parts i d l in
-      let met = met_of (slice_index_or parts i d) in
-      let later = map met_of (drop (i + 1) parts) in (
-        (λ rest all. subst (GatherAll (map met_of parts)) (sym (append_assoc replies (copy ∷ []) rest) ∙ ap (λ l. l ++ rest) (sym longer))
-            (first.0 (copy ∷ rest) (subst (λ l. GatherAll (map met_of l) (copy ∷ rest)) (sym at) (all_step later met reply copy rest is same all)))),
-        (λ rest f front. subst (λ l. GatherFront (map met_of parts) l f) (sym (append_assoc replies (copy ∷ []) rest) ∙ ap (λ l. l ++ rest) (sym longer))
-            (first.1 (copy ∷ rest) f (subst (λ l. GatherFront (map met_of l) (copy ∷ rest) f) (sym at) (front_step later met reply copy rest f is same front)))),
-      )
 
   -- a part met the first fault
   pub first_fault : (parts : List S) (i : ℕ) (d : S) (replies : List Reply) (f : NodeFault) → i < length parts → met_of (slice_index_or parts i d) ≡ Some (Err f) → AreFirst parts i replies → GatherFront (map met_of parts) replies f

@@ -1,5 +1,5 @@
 -- One volume is reached, or isn't.
-use Rattle.std.proofs.Common.{◌≡◌, ◌+◌, ◌++◌, ℕ, List, [], ◌∷◌, Option, None, Result, Ok, Err, IfOk, IfErr, ap, ◌∙◌, subst, inr, sym, arith}
+use Rattle.std.proofs.Common.{◌≡◌, ◌++◌, ℕ, List, [], ◌∷◌, Option, None, Result, Ok, Err, IfOk, IfErr, ap, ◌∙◌, subst, inr, sym, arith}
 use Rattle.ec_protocol.specs.Clerk.{start}
 use Rattle.ec_protocol.specs.declared.clerk.Clerk.{Clerk}
 use Rattle.ec_protocol.specs.declared.clerk.Out.{Out}

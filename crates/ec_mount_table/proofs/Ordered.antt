@@ -2,7 +2,6 @@
 use Rattle.std.proofs.Common.{◌≡◌, ◌+◌, ◌≤◌, ℕ, zero, suc, List, [], ◌∷◌, length, sym, ap, subst, arith}
 use Rattle.ec_plain.specs.Walk.{Path}
 use Rattle.ec_plain.specs.declared.call.Call.{Call}
-use Rattle.ec_plain.specs.declared.call.Call.TheVariants as call
 use Rattle.ec_words.specs.declared.name.Verb.{Verb}
 use Rattle.ec_words.specs.declared.name.Verb.TheVariants as verb
 use Rattle.ec_words.specs.Rows.{Word, UpTo, ◌▸◌}

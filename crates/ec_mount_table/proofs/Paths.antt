@@ -13,9 +13,6 @@ mount_here f (y ∷ xs) zero x all l is = subst (λ z. IsMount (f z)) (sym is) a
 mount_here f (y ∷ xs) (suc i) x all l is = mount_here f xs i x all.2 (omega (arith, l)) is
 
 module _ {A : Type 0} (f : A → List ℕ) (words : List A) where
-  pub paths_none : (table : List Path) → table ≡ [] → table ≡ map mount_path (map f (take 0 words))
-  paths_none table none = none
-
   pub paths_more : (i : ℕ) (word : A) (old new : List Path) (path : Path) → i < length words → word ≡ get_or words i word → old ≡ map mount_path (map f (take i words)) → path ≡ mount_path (f word) → new ≡ old ++ path ∷ [] → new ≡ map mount_path (map f (take (i + 1) words))
   paths_more i word old new path l is had path_is longer =
       let done = take i words in

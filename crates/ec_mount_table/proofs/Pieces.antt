@@ -1,5 +1,5 @@
 -- Texts that are written piece by piece.
-use Rattle.std.proofs.Common.{◌≡◌, ◌+◌, ℕ, List, [], ◌∷◌, ◌++◌, Result, Ok, Err, OnOk, codes, refl, sym, ap, ◌∙◌, append_assoc, append-nil}
+use Rattle.std.proofs.Common.{◌≡◌, ℕ, List, [], ◌∷◌, ◌++◌, Result, Ok, Err, OnOk, codes, refl, sym, ap, ◌∙◌, append_assoc, append-nil}
 use Rattle.std.specs.List.{flat_map}
 use Rattle.ec_plain.specs.Walk.{Path}
 use Rattle.ec_outs.specs.Outs.{Reply}
@@ -12,34 +12,14 @@ use Rattle.ec_mount_table.specs.declared.seen.Seen.{Seen}
 pub text_step : (text more piece now rest whole : List ℕ) → more ≡ text ++ piece → now ≡ piece ++ rest → text ++ now ≡ whole → more ++ rest ≡ whole
 text_step text more piece now rest whole e n h = ap (λ l. l ++ rest) e ∙ (append_assoc text piece rest ∙ (ap (λ l. text ++ l) (sym n) ∙ h))
 
--- nothing is left
-pub text_end : (text now whole : List ℕ) → now ≡ [] → text ++ now ≡ whole → text ≡ whole
-text_end text now whole none h = sym (append-nil text) ∙ (ap (λ l. text ++ l) (sym none) ∙ h)
-
-pub syncs_none : (front : List ℕ) (table : List Path) → syncs_text front table [] ≡ []
-syncs_none front [] = refl
-syncs_none front (path ∷ table) = refl
-
 pub syncs_next : (front : List ℕ) (table rest : List Path) (path : Path) (replies more : List Reply) (reply : Reply) → table ≡ path ∷ rest → replies ≡ reply ∷ more → syncs_text front table replies ≡ sync_text front path reply ++ syncs_text front rest more
 syncs_next front table rest path replies more reply e f = ap (syncs_text front table) f ∙ ap (λ l. syncs_text front l (reply ∷ more)) e
-
-pub rows_none : (table : List Path) (rows : List Row) → rows_text table rows [] ≡ []
-rows_none table [] = refl
-rows_none table (row ∷ rows) = refl
 
 pub rows_next : (table : List Path) (rows rest : List Row) (row : Row) (mets more : List Seen) (met : Seen) → rows ≡ row ∷ rest → mets ≡ met ∷ more → rows_text table rows mets ≡ seen_text table row met ++ rows_text table rest more
 rows_next table rows rest row mets more met e f = ap (rows_text table rows) f ∙ ap (λ l. rows_text table l (met ∷ more)) e
 
-pub told_none : (table : List Path) → all_told_text table [] ≡ []
-told_none [] = refl
-told_none (path ∷ table) = refl
-
 pub told_next : (table rest : List Path) (path : Path) (told more : List (List (List ℕ))) (lists : List (List ℕ)) → table ≡ path ∷ rest → told ≡ lists ∷ more → all_told_text table told ≡ flat_map (told_text path) lists ++ all_told_text rest more
 told_next table rest path told more lists e f = ap (all_told_text table) f ∙ ap (λ l. all_told_text l (lists ∷ more)) e
-
-pub rows_over : (table : List Path) (mets : List Seen) → rows_text table [] mets ≡ []
-rows_over table [] = refl
-rows_over table (met ∷ mets) = refl
 
 pub on_ok : {A E : Type 0} (r : Result A E) (P Q : Type 0) → (P → Q) → OnOk r P → OnOk r Q
 on_ok (Ok x) P Q f p = f p

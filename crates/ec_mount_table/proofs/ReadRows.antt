@@ -1,11 +1,8 @@
 -- Rows that are read one behind the other.
-use Rattle.std.proofs.Common.{◌≡◌, ◌≤◌, ◌+◌, ℕ, refl, List, [], ◌∷◌, ◌++◌, length, sym, ap, ◌∙◌, subst, arith, append_assoc, append-nil, length-append}
-use Rattle.ec_script.specs.Grammar.{IsOutside}
-use Rattle.ec_script.specs.Lines.{lines_of}
-use Rattle.ec_script.specs.declared.line.LineFault.TheVariants as line
+use Rattle.std.proofs.Common.{◌≡◌, ◌+◌, ℕ, List, [], ◌∷◌, ◌++◌, length, sym, ap, ◌∙◌, subst, arith, append_assoc, length-append}
 use Rattle.ec_words.specs.Calls.{SpellsCall}
 use Rattle.ec_words.specs.Words.{words_of}
-use Rattle.ec_mount_table.specs.Rows.{AreRows, IsBadAt}
+use Rattle.ec_mount_table.specs.Rows.{AreRows}
 use Rattle.ec_mount_table.specs.declared.script.Row.{Row}
 
 rows_push : (n : ℕ) (done : List (List ℕ)) (rows : List Row) (bytes : List ℕ) (row : Row) → AreRows n done rows → row.line ≡ length done + n → SpellsCall (words_of bytes) row.call → AreRows n (done ++ bytes ∷ []) (rows ++ row ∷ [])
@@ -21,9 +18,6 @@ pub record Reading (lines ahead : List (List ℕ)) (rows : List Row) (number : �
   pub read : AreRows 1 done rows
   pub number_is : number ≡ length done + 1
 
-pub begins : (lines : List (List ℕ)) (rows : List Row) → rows ≡ [] → Reading lines lines rows 1
-begins lines rows e = record { done = []; whole = refl; read = subst (AreRows 1 []) (sym e) tt; number_is = refl }
-
 module _ (lines ahead next : List (List ℕ)) (bytes : List ℕ) (rows : List Row) (number : ℕ) (r : Reading lines ahead rows number) (split : ahead ≡ bytes ∷ next) where
   pub reads : (row : Row) (more : List Row) → row.line ≡ number → SpellsCall (words_of bytes) row.call → more ≡ rows ++ row ∷ [] → Reading lines next more (number + 1)
   reads row more e is longer = record {
@@ -32,22 +26,3 @@ module _ (lines ahead next : List (List ℕ)) (bytes : List ℕ) (rows : List Ro
     read = subst (AreRows 1 (r.done ++ bytes ∷ [])) (sym longer) (rows_push 1 r.done rows bytes row r.read (e ∙ r.number_is) is);
     number_is = omega (arith, r.number_is, length-append r.done (bytes ∷ []));
   }
-
-  -- a line is left, so that there are no more than so many
-  pub few : (most : ℕ) → length lines ≤ most → number ≤ most
-  few most le = omega (arith, le, ap length r.whole, length-append r.done ahead, ap length split, r.number_is)
-
-  pub bad : (column : ℕ) → IsOutside SpellsCall bytes (line.At column) → IsBadAt lines number column
-  bad column o = record {
-    before = r.done;
-    rows = rows;
-    bytes = bytes;
-    rest = next;
-    whole = sym (r.whole ∙ ap (λ l. r.done ++ l) split);
-    read = r.read;
-    number = r.number_is;
-    outside = o;
-  }
-
-pub all_read : (lines : List (List ℕ)) (ahead : List ℕ) (rows : List Row) (number : ℕ) → Reading lines (lines_of ahead) rows number → ahead ≡ [] → AreRows 1 lines rows
-all_read lines ahead rows number r none = subst (λ l. AreRows 1 l rows) (sym (r.whole ∙ (ap (λ b. r.done ++ lines_of b) none ∙ append-nil r.done))) r.read

@@ -182,12 +182,6 @@ module _ {L : Type 0} where
   pub went_nowhere : (passes : List (Pass (Node L) Step)) → Both passes passes (λ place old new. Did [] [] old new)
   went_nowhere passes = (refl, λ i old new o n. subst (Rests old) (some_is (sym o ∙ n)) (rests_self old))
 
-  pub sync_seen : (table : List Path) (call : Call) (olds news : List (Pass (Node L) Step)) (replies : Vec Reply Global) → call ≡ Sync → SyncCame olds news (Ok replies) → CallCame table call olds news (Ok (seen.All replies))
-  sync_seen table call olds news replies is came = (is, came)
-
-  pub sync_stops : (table : List Path) (call : Call) (olds news : List (Pass (Node L) Step)) (cut : Cut) → call ≡ Sync → SyncCame olds news (Err cut) → CallCame table call olds news (Err cut)
-  sync_stops table call olds news cut is came = unless_so cut.fault (SyncCut olds news cut.replies.items cut.fault) (CallCut table call olds news cut.replies.items cut.fault) (λ c. (None, is, tt, c.0, c.1)) came
-
 -- Rows one after another.
 
 take_suc : {A : Type 0} (xs : List A) (i : ℕ) (x : A) → i < length xs → x ≡ get_or xs i x → take (suc i) xs ≡ take i xs ++ x ∷ []
@@ -227,7 +221,3 @@ sofar_none table rows mets passes none nothing h =
 pub last_cut : {L : Type 0} (olds news : List (Pass (Node L) Step)) (cut : Cut) (f : NodeFault) → f ≡ cut.fault → SyncCame olds news (Err cut) → LastCame olds news (Err f)
 last_cut olds news cut f same came =
     subst (λ g. LastCame olds news (Err g)) (sym same) (unless_so cut.fault (SyncCut olds news cut.replies.items cut.fault) ((replies : List Reply) × SyncCut olds news replies cut.fault) (λ c. (cut.replies.items, c)) came)
-
-pub cut_made : {L : Type 0} (table : List Path) (rows : List Row) (mets : List Seen) (passes : List (Pass (Node L) Step)) (cut : Cut) (replies : List Reply) (f : NodeFault) → f ≡ cut.fault → replies ≡ cut.replies.items → RowsCame table rows mets passes (Err cut) → MadeAll table rows mets replies passes (Err f)
-cut_made table rows mets passes cut replies f same are came =
-    subst (λ g. MadeAll table rows mets replies passes (Err g)) (sym same) (subst (λ l. MadeAll table rows mets l passes (Err cut.fault)) (sym are) came)

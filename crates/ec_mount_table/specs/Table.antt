@@ -1,5 +1,5 @@
 -- What a mount of several volumes does with its source, its sink and its net.
-use Rattle.std.specs.Prelude.{◌≡◌, ◌≤◌, ◌⊎◌, ◌+◌, ℕ, List, [], ◌∷◌, ◌++◌, length, map, Some}
+use Rattle.std.specs.Prelude.{◌≡◌, ◌≤◌, ◌⊎◌, ℕ, List, [], ◌∷◌, ◌++◌, length, map, Some}
 use Rattle.std.specs.Io.KnownBytes.{Appends}
 use Rattle.ec_base.specs.Outside.{Rose}
 use Rattle.ec_base.specs.declared.counter.Counter.{Counter}

@@ -18,7 +18,7 @@ volumes-init g c =
     let lock_of : SharedClerk g.row.N-Link.Denot g.row.N-Link-Bell.Denot → TracedLock (Node g.row.N-Link.Denot) Step = λ k. k.lock in
     let pass_of : Part g.row.N-Link.Denot g.row.N-Link-Bell.Denot → Pass (Node g.row.N-Link.Denot) Step = λ p. p.pass in
     let net : NetSeen = record { faults = g.N.Net.faults c.args.net.now; bad = g.N.Net.bad c.args.net.now; ended = g.N.Net.ended c.args.net.now } in
-    (c.requires.seated, c.requires.alone, refl, left_first g.N.Link.Link.given g.N.Link.Link.got c.args.is_done net (map lock_of c.args.clerks.items) (map pass_of c.args.parts.items) c.new.result c.new.ensures.items)
+    (c.requires.seated, c.requires.alone, refl {a = g.N.Net.faults c.args.net.now}, left_first g.N.Link.Link.given g.N.Link.Link.got c.args.is_done net (map lock_of c.args.clerks.items) (map pass_of c.args.parts.items) c.new.result c.new.ensures.items)
 
 pub unreachable-requires : goal.unreachable-requires
 unreachable-requires g c =
